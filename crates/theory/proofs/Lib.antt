@@ -1,0 +1,19 @@
+-- What follows from the definitions.
+pub mod Reflect
+pub mod ListLaws
+pub mod ClosureLaws
+pub mod RowTheorem
+pub mod StepLaws
+pub mod WantedLaws
+pub mod CutTheorem
+pub mod NodeLaws
+pub mod StateLaws
+pub mod RepeatLaws
+pub mod BuildLaws
+pub mod QueryLaws
+pub mod RowLaws
+pub mod TableLaws
+pub mod LookupLaw
+pub mod Faithfulness
+pub mod DemandThree
+pub mod TrialsTheorem

@@ -1,0 +1,98 @@
+-- Facts about lists as sets: membership under take and drop, and the pigeonhole.
+use Prim.Native.Nat.{ℕ, zero, suc, _+_, _≤_, _<_, zero-le}
+use native.Mathlib.Nat.{le-of-suc-le-suc, not-suc-le-zero, eq-or-lt-of-le}
+use native.Mathlib.Omega.{arith}
+use mathlib.Core.Path.{_≡_, refl, sym, _∙_, ap, subst}
+use mathlib.Core.Logic.{⊎-elim}
+use mathlib.Core.List.{List, [], _∷_, _++_, map, List·Memᴰ, List·Memᴰ·head, List·Memᴰ·tail, List·Memᴰ·not-nil, List·Memᴰ·cases-cons, List·Memᴰ·append-cases, List·Memᴰ·eq-of-singleton, Memᴰ·append-left, Memᴰ·append-right, Memᴰ·cast, Memᴰ·map, Memᴰ·of-map}
+use lib.ListN.{length, drop, getD, length-append}
+use Rattle.theory.specs.Tests.{Distinct, empty, also, concat, upFrom}
+
+module _ {A : Type 0} where
+  -- every element of the first list is in the second
+  abbrev pub Within : List A → List A → Type 0
+  Within l m = (x : A) → List·Memᴰ x l → List·Memᴰ x m
+
+  pub member-drop : (i : ℕ) (l : List A) → Within (drop i l) l
+  member-drop zero l x m = m
+  member-drop (suc i) [] x m = m
+  member-drop (suc i) (y ∷ ys) x m = List·Memᴰ·tail (member-drop i ys x m)
+
+  pub member-getD : (l : List A) (i : ℕ) (d : A) → i < length l → List·Memᴰ (getD l i d) l
+  member-getD [] i d h = absurd (not-suc-le-zero h)
+  member-getD (x ∷ xs) zero d h = List·Memᴰ·head refl
+  member-getD (x ∷ xs) (suc i) d h = List·Memᴰ·tail (member-getD xs i d (le-of-suc-le-suc h))
+
+  distinct-rest : {x : A} {xs : List A} → Distinct (x ∷ xs) → (¬ List·Memᴰ x xs) × Distinct xs
+  distinct-rest (also n d) = (n, d)
+
+  pub distinct-snoc : {l : List A} {x : A} → Distinct l → ¬ List·Memᴰ x l → Distinct (l ++ (x ∷ []))
+  distinct-snoc empty n = also List·Memᴰ·not-nil empty
+  distinct-snoc {x} (also {x = y} {xs} k d) n =
+      also
+      (λ m. ⊎-elim k (λ e. n (List·Memᴰ·head (sym (List·Memᴰ·eq-of-singleton e)))) (List·Memᴰ·append-cases xs m))
+      (distinct-snoc d (λ m. n (List·Memᴰ·tail m)))
+
+  -- a list around one of its elements
+  record Around (x : A) (l : List A) : Type 0 where
+    front : List A
+    back : List A
+    whole : l ≡ front ++ (x ∷ back)
+
+  around : {x : A} {l : List A} → List·Memᴰ x l → Around x l
+  around (List·Memᴰ·head {xs} e) = record { front = []; back = xs; whole = ap (λ y. y ∷ xs) (sym e) }
+  around (List·Memᴰ·tail {x = y} m) = let r = around m in record { front = y ∷ r .front; back = r .back; whole = ap (λ l. y ∷ l) (r .whole) }
+
+  -- Pigeonhole: different things that are all in a list are not more than its elements.
+  pub distinct-length : (l m : List A) → Distinct l → Within l m → length l ≤ length m
+  distinct-length [] m d w = zero-le
+  distinct-length (x ∷ xs) m d w =
+      let r = around (w x (List·Memᴰ·head refl)) in
+      let rest : Within xs (r .front ++ r .back) =
+      (λ y k.
+      ⊎-elim (λ f. Memᴰ·append-left (r .back) f)
+      (λ b. ⊎-elim (λ e. absurd (distinct-rest d .0 (Memᴰ·cast (sym e) k))) (λ t. Memᴰ·append-right (r .front) t) (List·Memᴰ·cases-cons b))
+      (List·Memᴰ·append-cases (r .front) (subst (λ (n : List A). List·Memᴰ y n) (r .whole) (w y (List·Memᴰ·tail k))))) in
+      let fewer = distinct-length xs (r .front ++ r .back) (distinct-rest d .1) rest in
+      omega
+      (arith, simp length-append at (ap length (r .whole)), simp length-append at fewer)
+
+  -- an element of lists one after the other is an element of one of them
+  pub member-concat : {x : A} (ls : List (List A)) → List·Memᴰ x (concat ls) → (l : List A) × List·Memᴰ l ls × List·Memᴰ x l
+  member-concat [] m = absurd (List·Memᴰ·not-nil m)
+  member-concat (l ∷ ls) m =
+      ⊎-elim (λ k. (l, List·Memᴰ·head refl, k)) (λ k. let r = member-concat ls k in (r .0, List·Memᴰ·tail (r .1), r .2)) (List·Memᴰ·append-cases l m)
+
+  pub concat-member : {x : A} {l : List A} {ls : List (List A)} → List·Memᴰ l ls → List·Memᴰ x l → List·Memᴰ x (concat ls)
+  concat-member {x} {l} (List·Memᴰ·head {x = k} {xs = ls} e) m = Memᴰ·append-left (concat ls) (subst (λ (j : List A). List·Memᴰ x j) e m)
+  concat-member (List·Memᴰ·tail {x = k} n) m = Memᴰ·append-right k (concat-member n m)
+
+module _ {A B : Type 0} (f : A → List B) where
+  -- an element of what f gives along a list is given at one of its elements
+  pub member-concat-map : {y : B} (l : List A) → List·Memᴰ y (concat (map f l)) → (x : A) × List·Memᴰ x l × List·Memᴰ y (f x)
+  member-concat-map {y} l m =
+      let r = member-concat (map f l) m in
+      let s = Memᴰ·of-map f l (r .1) in
+      (s .0, s .1, subst (λ (k : List B). List·Memᴰ y k) (sym (s .2)) (r .2))
+
+  pub concat-map-member : {x : A} {y : B} {l : List A} → List·Memᴰ x l → List·Memᴰ y (f x) → List·Memᴰ y (concat (map f l))
+  concat-map-member m k = concat-member (Memᴰ·map f m) k
+
+-- the numbers from k on
+pub member-upFrom : (k n : ℕ) {x : ℕ} → List·Memᴰ x (upFrom k n) → (k ≤ x) × (x < k + n)
+member-upFrom k zero m = absurd (List·Memᴰ·not-nil m)
+member-upFrom k (suc n) m = ⊎-elim (λ e. omega arith) (λ t. let r = member-upFrom (suc k) n t in omega arith) (List·Memᴰ·cases-cons m)
+
+pub upFrom-member : (k n : ℕ) {x : ℕ} → k ≤ x → x < k + n → List·Memᴰ x (upFrom k n)
+upFrom-member k zero h l = let z : ⊥ = omega arith in absurd z
+upFrom-member k (suc n) {x} h l =
+    ⊎-elim (λ e. List·Memᴰ·head (sym e)) (λ more. List·Memᴰ·tail (upFrom-member (suc k) n more (omega arith))) (eq-or-lt-of-le h)
+
+pub upFrom-length : (k n : ℕ) → length (upFrom k n) ≡ n
+upFrom-length k zero = refl
+upFrom-length k (suc n) = ap suc (upFrom-length (suc k) n)
+
+pub upFrom-getD : (k n i d : ℕ) → i < n → getD (upFrom k n) i d ≡ k + i
+upFrom-getD k zero i d h = absurd (not-suc-le-zero h)
+upFrom-getD k (suc n) zero d h = omega arith
+upFrom-getD k (suc n) (suc i) d h = upFrom-getD (suc k) n i d (le-of-suc-le-suc h) ∙ omega arith

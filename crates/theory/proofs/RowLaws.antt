@@ -1,0 +1,112 @@
+-- Facts over any width and any index: lists read entry by entry, rows of one width put end to end and cut out again, bits as a number, and checks that all pass.
+use Prim.Native.Nat.{ℕ, zero, suc, _+_, _*_, _/_, _%_, _^_, _<_, _≤_}
+use native.Mathlib.Nat.{zero-add, suc-add, add-suc, add-zero, add-comm, zero-mul, mul-zero, suc-mul, mul-assoc, not-suc-le-zero, le-of-suc-le-suc, lt-of-lt-of-le, zero-div, div-div-eq-div-mul, div-add-mod, pow-succ'}
+use native.Mathlib.Omega.{arith}
+use mathlib.Core.Path.{_≡_, refl, sym, _∙_, ap, ap₂, subst}
+use mathlib.Core.Logic.{⊎-elim}
+use mathlib.Core.Bool.{Bool, true, false}
+use mathlib.Core.List.{List, [], _∷_, _++_, map, append-assoc, List·Memᴰ, List·Memᴰ·head, List·Memᴰ·tail, List·Memᴰ·cases-cons, List·Memᴰ·append-cases}
+use lib.ListN.{length, take, drop, getD, length-append}
+use lib.Pow.{pow-mono}
+use lib.Seq.{take-at, drop-append-add, getD-take, getD-drop}
+use Rattle.theory.specs.Tests.{concat, upFrom}
+use Rattle.theory.specs.Refusals.{passed, firstOf}
+use Rattle.theory.specs.Query.{byteAt, rowAt}
+use Rattle.theory.specs.Table.{bit, number, heldBytes}
+use Rattle.theory.proofs.ListLaws.{member-concat}
+
+module _ {A : Type 0} where
+  -- an entry in bounds of a mapped list, whatever is read past the end
+  pub getD-map : {B : Type 0} (f : B → A) (l : List B) (i : ℕ) (d : A) (e : B) → i < length l → getD (map f l) i d ≡ f (getD l i e)
+  getD-map f [] i d e h = absurd (not-suc-le-zero h)
+  getD-map f (x ∷ xs) zero d e h = refl
+  getD-map f (x ∷ xs) (suc i) d e h = getD-map f xs i d e (le-of-suc-le-suc h)
+
+  -- a function that gives a list's entries reads the list back: counted from k, and from 0
+  entries-from : (f : ℕ → A) (l : List A) (d : A) (k : ℕ) → ((i : ℕ) → i < length l → f (k + i) ≡ getD l i d) → map f (upFrom k (length l)) ≡ l
+  entries-from f [] d k h = refl
+  entries-from f (x ∷ xs) d k h =
+      ap₂ _∷_ (rw add-zero at (h 0 (omega arith))) (entries-from f xs d (suc k) (λ i l. rw (suc-add, ← add-suc) (h (suc i) (omega arith))))
+
+  pub entries : (f : ℕ → A) (l : List A) (d : A) (n : ℕ) → length l ≡ n → ((i : ℕ) → i < n → f i ≡ getD l i d) → map f (upFrom 0 n) ≡ l
+  entries f l d n e h = rw e at (entries-from f l d 0 (λ i b. rw zero-add (h i (omega arith))))
+
+  -- what holds of the first and of the rest holds of all
+  pub all-cons : {P : A → Type 0} {x : A} {l : List A} → P x → ((y : A) → List·Memᴰ y l → P y) → (y : A) → List·Memᴰ y (x ∷ l) → P y
+  all-cons {P} p h y m = ⊎-elim (λ e. subst P (sym e) p) (h y) (List·Memᴰ·cases-cons m)
+
+  -- what holds of one list and of the other holds of both together
+  pub all-append : {P : A → Type 0} (k : List A) {l : List A} → ((y : A) → List·Memᴰ y k → P y) → ((y : A) → List·Memᴰ y l → P y)
+      → (y : A) → List·Memᴰ y (k ++ l) → P y
+  all-append k g h y m = ⊎-elim (g y) (h y) (List·Memᴰ·append-cases k m)
+
+  -- what holds of the entries of each row holds of them end to end
+  pub all-concat : {P : A → Type 0} (rows : List (List A)) → ((r : List A) → List·Memᴰ r rows → (y : A) → List·Memᴰ y r → P y)
+      → (y : A) → List·Memᴰ y (concat rows) → P y
+  all-concat rows h y m = let r = member-concat rows m in h (r .0) (r .1) y (r .2)
+
+module _ (w : ℕ) where
+  -- each row is w long
+  abbrev Wide : List (List ℕ) → Type 0
+  Wide rows = (r : List ℕ) → List·Memᴰ r rows → length r ≡ w
+
+  -- the length of the rows end to end
+  pub concat-length : (rows : List (List ℕ)) → Wide rows → length (concat rows) ≡ length rows * w
+  concat-length [] h = sym (zero-mul w)
+  concat-length (r ∷ rows) h =
+      simp (length-append, suc-mul, h r (List·Memᴰ·head refl), concat-length rows (λ s m. h s (List·Memᴰ·tail m))) (omega arith)
+
+  -- row i, cut out of the rows end to end
+  row-of-concat : (rows : List (List ℕ)) (back : List ℕ) (i : ℕ) → Wide rows → i < length rows → take w (drop (i * w) (concat rows ++ back)) ≡ getD rows i []
+  row-of-concat [] back i h l = absurd (not-suc-le-zero l)
+  row-of-concat (r ∷ rows) back zero h l = rw (zero-mul, append-assoc) (take-at r (concat rows ++ back) w (h r (List·Memᴰ·head refl)))
+  row-of-concat (r ∷ rows) back (suc i) h l =
+      let e : length r ≡ w = h r (List·Memᴰ·head refl) in
+      rw (suc-mul, append-assoc, add-comm, ← e, drop-append-add, e) (row-of-concat rows back i (λ s m. h s (List·Memᴰ·tail m)) (le-of-suc-le-suc l))
+
+  -- row i, read where the rows begin at base, with anything before and behind them
+  pub row-of-rows : (base : ℕ) (front : List ℕ) (rows : List (List ℕ)) (back : List ℕ) (i : ℕ) → Wide rows → length front ≡ base → i < length rows
+      → rowAt base w i (front ++ (concat rows ++ back)) ≡ getD rows i []
+  row-of-rows base front rows back i h e l = rw (← e, drop-append-add) (row-of-concat rows back i h l)
+
+-- a bit is 0 or 1
+bit-below : (b : Bool) → bit b < 2
+bit-below true = omega arith
+bit-below false = omega arith
+
+-- bit k of a number is entry k of the bits that it was made from
+pub number-bit : (bs : List Bool) (k : ℕ) → number bs / 2 ^ k % 2 ≡ bit (getD bs k false)
+number-bit [] k = rw zero-div
+number-bit (b ∷ bs) zero = omega (arith, bit-below b)
+number-bit (b ∷ bs) (suc k) =
+    let half : number (b ∷ bs) / 2 ≡ number bs = omega (arith, bit-below b) in
+    rw (pow-succ', ← div-div-eq-div-mul, half) (number-bit bs k)
+
+-- as many bits make a number below that power of 2, and so do fewer
+pub number-below : (bs : List Bool) → number bs < 2 ^ length bs
+number-below [] = omega arith
+number-below (b ∷ bs) = rw pow-succ' (omega (arith, bit-below b, number-below bs))
+
+pub number-fits : (bs : List Bool) (n : ℕ) → length bs ≤ n → number bs < 2 ^ n
+number-fits bs n l = lt-of-lt-of-le (number-below bs) (pow-mono l)
+
+-- the number in two parts, cut at bit n
+pub number-split : (n : ℕ) (bs : List Bool) → number (take n bs) + 2 ^ n * number (drop n bs) ≡ number bs
+number-split zero bs = omega arith
+number-split (suc n) [] = rw mul-zero
+number-split (suc n) (b ∷ bs) = rw (pow-succ', mul-assoc) (omega (arith, number-split n bs))
+
+-- bit r of held byte q is bit 8 * q + r
+held-place : (bs : List Bool) (q r : ℕ) → q < 2 → r < 8 → byteAt (heldBytes bs) q / 2 ^ r % 2 ≡ bit (getD bs (8 * q + r) false)
+held-place bs zero r q l = rw (zero-add, ← getD-take 8 bs r false l) (number-bit (take 8 bs) r)
+held-place bs (suc zero) r q l = rw (← getD-drop 8) (number-bit (drop 8 bs) r)
+held-place bs (suc (suc k)) r q l = absurd (omega arith)
+
+-- the held bytes have each bit at its place
+pub held-bit : (bs : List Bool) (i : ℕ) → i < 16 → byteAt (heldBytes bs) (i / 8) / 2 ^ (i % 8) % 2 ≡ bit (getD bs i false)
+held-bit bs i l = held-place bs (i / 8) (i % 8) (omega arith) (omega arith) ∙ ap (λ k. bit (getD bs k false)) (div-add-mod i 8)
+
+-- where no check refuses, none is the first to
+pub firstOf-passed : (check : ℕ → ℕ) (n : ℕ) → ((i : ℕ) → i < n → check i ≡ passed) → firstOf check n ≡ passed
+firstOf-passed check zero h = refl
+firstOf-passed check (suc n) h = rw (firstOf-passed check n (λ i l. h i (omega arith)), h n (omega arith))

@@ -1,0 +1,211 @@
+-- A state's marked nodes are exactly the orderings that the construction has there; the computed states are exactly the states, each once, or there are
+-- more than the limit; and a set taken again directly after itself, and an empty set, change no state.
+use Prim.Native.Nat.{ℕ, _≤_, _<_}
+use native.Mathlib.Nat.{le-refl}
+use native.Mathlib.Omega.{arith}
+use mathlib.Core.Path.{_≡_, refl, sym, _∙_, ap, ap₂, subst}
+use mathlib.Core.Bool.{Bool, true, false, false≢true}
+use mathlib.Core.Logic.{_⊎_, inl, inr, ⊎-elim, _↔_}
+use mathlib.Core.List.{List, [], _∷_, _++_, map, append-nil, List·Memᴰ, List·Memᴰ·head, List·Memᴰ·tail, List·Memᴰ·not-nil, List·Memᴰ·cases-cons, List·Memᴰ·eq-of-singleton, List·Memᴰ·append-cases, Memᴰ·cast, Memᴰ·map, Memᴰ·of-map, tail-eq-of-cons-eq, head-eq-of-cons-eq, cons≢nil}
+use lib.Dec.{ltb}
+use lib.ListN.{length}
+use Rattle.theory.specs.Tests.{Says, member, Distinct}
+use Rattle.theory.specs.Orders.{Order, Orderings, Rule, Query, interesting, rulesOf, Change, shorten, insert, behind, before, instead, at, Reach, given, step, Taken, Start, sameOrder, After}
+use Rattle.theory.specs.Closure.{Found, first, next, More, closure}
+use Rattle.theory.specs.Construction.{kept, keptSteps, KeptAfter, Node, Marks, marks, marked, prefixes, startState, takeSet, takeSets, State, setNumbers, statesWithin, holdsIn}
+use Rattle.theory.proofs.Reflect.{says-as, says-one, says-true, true-says, says-member, decides-order, decides-marks}
+use Rattle.theory.proofs.ListLaws.{member-upFrom, upFrom-member}
+use Rattle.theory.proofs.ClosureLaws.{closure-distinct, closure-found, closure-complete, closure-few, closure-many}
+use Rattle.theory.proofs.CutTheorem.{Within, PrefixClosed, cut-theorem}
+use Rattle.theory.proofs.NodeLaws.{more-as, found-reach, reach-found, node-next, member-kept-steps}
+
+-- the members of a set of orderings in one form are those in the other
+abbrev pub Alike : Orderings → Orderings → Type 0
+Alike X Y = (o : Order) → X o ↔ Y o
+
+module _ {cut : Order → Order} {rs : List Rule} where
+  pub reach-more : {X Y : Orderings} → Within X Y → Within (Reach cut rs X) (Reach cut rs Y)
+  reach-more f o (given g) = given (f o g)
+  reach-more f _ (step {o} p s) = step (reach-more f o p) s
+
+  -- what is closed already is reached from itself alone
+  pub reach-again : {X : Orderings} → Within (Reach cut rs (Reach cut rs X)) (Reach cut rs X)
+  reach-again o (given g) = g
+  reach-again _ (step {o} p s) = step (reach-again o p) s
+
+-- with no rules only prefixes are taken
+change-none : {p s t : Order} → Change [] p s t → (x : ℕ) × (s ≡ x ∷ []) × (t ≡ [])
+change-none (shorten {x}) = (x, refl, refl)
+change-none (insert m w g h) = absurd (List·Memᴰ·not-nil m)
+change-none (behind e m g h) = absurd (⊎-elim List·Memᴰ·not-nil List·Memᴰ·not-nil e)
+change-none (before e g h) = absurd (⊎-elim List·Memᴰ·not-nil List·Memᴰ·not-nil e)
+change-none (instead e g h) = absurd (⊎-elim List·Memᴰ·not-nil List·Memᴰ·not-nil e)
+
+pub reach-none : {cut : Order → Order} {X : Orderings} → PrefixClosed X → ((o : Order) → X o → cut o ≡ o) → Within (Reach cut [] X) X
+reach-none closed own o (given g) = g
+reach-none {cut} {X} closed own _ (step p (at q {s} {t} c)) =
+    let n = change-none c in
+    let here = reach-none closed own (q ++ s) p in
+    let shorter : X (q ++ t) = rw (n .2) (rw append-nil (closed q (n .0 ∷ []) (rw (n .1) at here))) in
+    subst X (sym (own (q ++ t) shorter)) shorter
+
+-- the marked entries are those at which the mark is set
+marked-by : (f : Order → Bool) (ns : List Order) (o : Order) → List·Memᴰ o (marked (map f ns) ns) → List·Memᴰ o ns × (f o ≡ true)
+marked-by f [] o m = absurd (List·Memᴰ·not-nil m)
+marked-by f (n ∷ ns) o m = go (f n) refl (λ k. let t = marked-by f ns o k in (List·Memᴰ·tail (t .0), t .1)) m
+  where
+    go : (b : Bool) → f n ≡ b → (List·Memᴰ o (marked (map f ns) ns) → List·Memᴰ o (n ∷ ns) × (f o ≡ true)) → List·Memᴰ o (marked (b ∷ map f ns) (n ∷ ns)) → List·Memᴰ o (n ∷ ns) × (f o ≡ true)
+    go true e rest k = ⊎-elim (λ h. (List·Memᴰ·head h, ap f h ∙ e)) rest (List·Memᴰ·cases-cons k)
+    go false e rest k = rest k
+
+by-marked : (f : Order → Bool) (ns : List Order) (o : Order) → List·Memᴰ o ns → f o ≡ true → List·Memᴰ o (marked (map f ns) ns)
+by-marked f [] o m e = absurd (List·Memᴰ·not-nil m)
+by-marked f (n ∷ ns) o m e = go (f n) refl (λ k. by-marked f ns o k e) (List·Memᴰ·cases-cons m)
+  where
+    go : (b : Bool) → f n ≡ b → (List·Memᴰ o ns → List·Memᴰ o (marked (map f ns) ns)) → (o ≡ n) ⊎ List·Memᴰ o ns → List·Memᴰ o (marked (b ∷ map f ns) (n ∷ ns))
+    go true d rest (inl h) = List·Memᴰ·head h
+    go true d rest (inr k) = List·Memᴰ·tail (rest k)
+    go false d rest (inl h) = absurd (false≢true (sym d ∙ ap f (sym h) ∙ e))
+    go false d rest (inr k) = rest k
+
+marked-within : (ms : Marks) (ns : List Order) (o : Order) → List·Memᴰ o (marked ms ns) → List·Memᴰ o ns
+marked-within [] ns o m = absurd (List·Memᴰ·not-nil m)
+marked-within (b ∷ ms) [] o m = absurd (List·Memᴰ·not-nil m)
+marked-within (true ∷ ms) (n ∷ ns) o m = ⊎-elim (λ e. List·Memᴰ·head e) (λ k. List·Memᴰ·tail (marked-within ms ns o k)) (List·Memᴰ·cases-cons m)
+marked-within (false ∷ ms) (n ∷ ns) o m = List·Memᴰ·tail (marked-within ms ns o m)
+
+-- the marks of a list of orderings mark its nodes
+pub marks-exactly : (ns os : List Order) (o : Order) → List·Memᴰ o (marked (marks ns os) ns) ↔ (List·Memᴰ o ns × List·Memᴰ o os)
+marks-exactly ns os o = (
+  λ m. let t = marked-by (λ x. member sameOrder x os) ns o m in (t .0, says-true (says-member decides-order o os) (t .1)),
+  λ t. by-marked (λ x. member sameOrder x os) ns o (t .0) (true-says (says-member decides-order o os) (t .1)),
+)
+
+-- marks are canonical: lists with the same nodes have the same marks
+pub marks-canonical : (ns os ps : List Order) → ((o : Order) → List·Memᴰ o ns → List·Memᴰ o os ↔ List·Memᴰ o ps) → marks ns os ≡ marks ns ps
+marks-canonical [] os ps f = refl
+marks-canonical (n ∷ ns) os ps f =
+    let e = f n (List·Memᴰ·head refl) in
+    ap₂ _∷_ (says-one (says-as (e .0) (e .1) (says-member decides-order n os)) (says-member decides-order n ps)) (marks-canonical ns os ps (λ o m. f o (List·Memᴰ·tail m)))
+
+-- the computed prefixes are the prefixes
+prefixes-start : (p o : Order) → List·Memᴰ o (prefixes p) → Start p o
+prefixes-start [] o m = ([], append-nil o ∙ List·Memᴰ·eq-of-singleton m)
+prefixes-start (c ∷ p) o m =
+    ⊎-elim (λ e. (c ∷ p, ap (λ (r : Order). r ++ (c ∷ p)) e))
+    (λ k. let t = Memᴰ·of-map (λ r. c ∷ r) (prefixes p) k in let s = prefixes-start p (t .0) (t .1) in (s .0, ap (λ (r : Order). r ++ s .0) (sym (t .2)) ∙ ap (λ r. c ∷ r) (s .1)))
+    (List·Memᴰ·cases-cons m)
+
+start-prefixes : (p o : Order) → Start p o → List·Memᴰ o (prefixes p)
+start-prefixes [] [] s = List·Memᴰ·head refl
+start-prefixes [] (d ∷ o) s = absurd (cons≢nil (s .1))
+start-prefixes (c ∷ p) [] s = List·Memᴰ·head refl
+start-prefixes (c ∷ p) (d ∷ o) s =
+    List·Memᴰ·tail (Memᴰ·cast (ap (λ e. e ∷ o) (head-eq-of-cons-eq (s .1))) (Memᴰ·map (λ r. c ∷ r) (start-prefixes p o (s .0, tail-eq-of-cons-eq (s .1)))))
+
+module _ (q : Query) (ns : List Order) (exact : (o : Order) → List·Memᴰ o ns ↔ Node q o) where
+  -- the orderings of a set of marks
+  abbrev pub In : Marks → Orderings
+  In ms o = List·Memᴰ o (marked ms ns)
+
+  pub start-exactly : (p : Order) → List·Memᴰ p (q .produced) → Alike (In (startState ns p)) (Start p)
+  unfolding startState
+  start-exactly p m o = (
+    λ k. prefixes-start p o (marks-exactly ns (prefixes p) o .0 k .1),
+    λ s. marks-exactly ns (prefixes p) o .1 (exact o .1 (record { start = p; produced = m; sets = []; reached = s }), start-prefixes p o s),
+  )
+
+  module _ (s : ℕ) (ms : Marks) where
+    abbrev out : Order → List Order
+    out = keptSteps q (rulesOf q s)
+
+    -- all that a set gives from nodes are nodes
+    found-nodes : (o : Order) → Found out (marked ms ns) o → List·Memᴰ o ns
+    found-nodes o (first m) = marked-within ms ns o m
+    found-nodes o (next {x} f m) =
+        let t = member-kept-steps q (rulesOf q s) x o m in
+        exact o .1 (subst (Node q) (t .2) (node-next q s x (t .0) (exact x .0 (found-nodes x f)) (t .1)))
+
+    few : length (closure sameOrder out (length ns) (marked ms ns)) ≤ length ns
+    few = closure-few decides-order out (length ns) (marked ms ns) ns (le-refl (length ns)) found-nodes
+
+    -- A state after a set: its nodes are exactly the closure of the nodes before.
+    pub take-exactly : Alike (In (takeSet q ns ms s)) (Reach (kept q) (rulesOf q s) (In ms))
+    unfolding takeSet
+    take-exactly o = (
+      λ k. found-reach q (rulesOf q s) (marked ms ns) (In ms) (λ x m. m) o (closure-found decides-order out (length ns) (marked ms ns) o (marks-exactly ns (closure sameOrder out (length ns) (marked ms ns)) o .0 k .1)),
+      λ r.
+          let f = reach-found q (rulesOf q s) (marked ms ns) (In ms) (λ x m. m) o r in
+          marks-exactly ns (closure sameOrder out (length ns) (marked ms ns)) o .1 (found-nodes o f, closure-complete decides-order out (length ns) (marked ms ns) few o f),
+    )
+
+  pub takes-exactly : (ss : List ℕ) (ms : Marks) (X : Orderings) → Alike (In ms) X → Alike (In (takeSets q ns ms ss)) (Taken (kept q) X (map (rulesOf q) ss))
+  takes-exactly [] ms X f = f
+  takes-exactly (s ∷ ss) ms X f =
+      takes-exactly ss (takeSet q ns ms s) (Reach (kept q) (rulesOf q s) X)
+      (λ o. (λ k. reach-more (λ x m. f x .0 m) o (take-exactly s ms o .0 k), λ r. take-exactly s ms o .1 (reach-more (λ x m. f x .1 m) o r)))
+
+  -- A state's nodes are exactly the orderings that the construction has after the sets.
+  pub state-exactly : (p : Order) → List·Memᴰ p (q .produced) → (ss : List ℕ) → Alike (In (takeSets q ns (startState ns p) ss)) (KeptAfter q p ss)
+  state-exactly p m ss = takes-exactly ss (startState ns p) (Start p) (start-exactly p m)
+
+  -- An interesting order is held there exactly when the uncut derivation gives it.
+  pub says-held : (p o : Order) (ss : List ℕ) → List·Memᴰ p (q .produced) → List·Memᴰ o (interesting q) → Says (After q p ss o) (holdsIn ns (takeSets q ns (startState ns p) ss) o)
+  says-held p o ss mp mo =
+      let c = cut-theorem q p o ss mp mo in
+      let e = state-exactly p mp ss o in
+      says-as (λ k. c .1 (e .0 k)) (λ a. e .1 (c .0 a)) (says-member decides-order o (marked (takeSets q ns (startState ns p) ss) ns))
+
+pub takes-snoc : (q : Query) (ns : List Order) (ss : List ℕ) (s : ℕ) (ms : Marks) → takeSets q ns ms (ss ++ (s ∷ [])) ≡ takeSet q ns (takeSets q ns ms ss) s
+takes-snoc q ns [] s ms = refl
+takes-snoc q ns (r ∷ ss) s ms = takes-snoc q ns ss s (takeSet q ns ms r)
+
+module _ (q : Query) (ns : List Order) where
+  abbrev successors : Marks → List Marks
+  successors ms = map (takeSet q ns ms) (setNumbers q)
+
+  abbrev FoundState : Marks → Type 0
+  FoundState = Found successors (map (startState ns) (q .produced))
+
+  found-state : (ms : Marks) → FoundState ms → State q ns ms
+  found-state ms (first m) =
+      let t = Memᴰ·of-map (startState ns) (q .produced) m in
+      record { start = t .0; produced = t .1; sets = []; below = λ s k. absurd (List·Memᴰ·not-nil k); reached = t .2 }
+  found-state ms (next {x} f m) =
+      let t = Memᴰ·of-map (takeSet q ns x) (setNumbers q) m in
+      let r = found-state x f in
+      record {
+        start = r .start;
+        produced = r .produced;
+        sets = r .sets ++ (t .0 ∷ []);
+        below = λ s k. ⊎-elim (λ j. r .below s j) (λ j. let b = member-upFrom 0 (q .sets) (t .1) in let e = List·Memᴰ·eq-of-singleton j in omega arith) (List·Memᴰ·append-cases (r .sets) k);
+        reached = takes-snoc q ns (r .sets) (t .0) (startState ns (r .start)) ∙ ap (λ k. takeSet q ns k (t .0)) (r .reached) ∙ t .2;
+      }
+
+  takes-found : (ss : List ℕ) → ((s : ℕ) → List·Memᴰ s ss → s < q .sets) → (ms : Marks) → FoundState ms → FoundState (takeSets q ns ms ss)
+  takes-found [] b ms f = f
+  takes-found (s ∷ ss) b ms f =
+      takes-found ss (λ r m. b r (List·Memᴰ·tail m)) (takeSet q ns ms s)
+      (next f (Memᴰ·map (takeSet q ns ms) (upFrom-member 0 (q .sets) (omega arith) (let h = b s (List·Memᴰ·head refl) in omega arith))))
+
+  state-found : (ms : Marks) → State q ns ms → FoundState ms
+  state-found ms r = subst FoundState (r .reached) (takes-found (r .sets) (r .below) (startState ns (r .start)) (first (Memᴰ·map (startState ns) (r .produced))))
+
+  module _ (cap : ℕ) where
+    -- each state once
+    pub states-distinct : Distinct (statesWithin cap q ns)
+    unfolding statesWithin
+    states-distinct = closure-distinct decides-marks successors cap (map (startState ns) (q .produced))
+
+    -- within the limit, the list has exactly the states
+    pub states-exactly : length (statesWithin cap q ns) ≤ cap → (ms : Marks) → List·Memᴰ ms (statesWithin cap q ns) ↔ State q ns ms
+    unfolding statesWithin
+    states-exactly few ms = (
+      λ m. found-state ms (closure-found decides-marks successors cap (map (startState ns) (q .produced)) ms m),
+      λ r. closure-complete decides-marks successors cap (map (startState ns) (q .produced)) few ms (state-found ms r),
+    )
+
+    -- past it exactly when there are more states
+    pub states-many : Says (More cap (State q ns)) (ltb cap (length (statesWithin cap q ns)))
+    unfolding statesWithin
+    states-many = says-as (more-as found-state) (more-as state-found) (closure-many decides-marks successors cap (map (startState ns) (q .produced)))

@@ -1,0 +1,207 @@
+-- A computed result of one step is a member of `steps` exactly when the relation `Step` holds.
+use Prim.Native.Nat.{ℕ, zero, suc, _+_, _-_, _≤_, _<_, zero-le, suc-le-suc}
+use native.Mathlib.Nat.{le-of-suc-le-suc, not-suc-le-zero, eq-or-lt-of-le}
+use native.Mathlib.Numerals.{add-one}
+use native.Mathlib.Omega.{arith}
+use mathlib.Core.Path.{_≡_, refl, sym, _∙_, ap, subst, subst₂}
+use mathlib.Core.Bool.{Bool, true, false}
+use mathlib.Core.Logic.{_⊎_, inl, inr, ⊎-elim}
+use mathlib.Core.List.{List, [], _∷_, _++_, map, dropLast, append-nil, List·Memᴰ, List·Memᴰ·head, List·Memᴰ·tail, List·Memᴰ·not-nil, List·Memᴰ·cases-cons, List·Memᴰ·append-cases, List·Memᴰ·eq-of-singleton, Memᴰ·append-left, Memᴰ·append-right, Memᴰ·cast, Memᴰ·map, Memᴰ·of-map}
+use lib.Dec.{eqb}
+use lib.ListN.{length, take, drop, getD, length-append, take-append-drop}
+use lib.Seq.{split-at, take-append-seam, take-append-add, drop-append-seam, drop-append-add, getD-append-seam}
+use Rattle.theory.specs.Tests.{pick, Says, holds, fails, position, concat, upFrom}
+use Rattle.theory.specs.Orders.{Order, Rule, fix, equal, Same, Change, shorten, insert, behind, before, instead, Step, at}
+use Rattle.theory.specs.Construction.{insertAt, replaceAt, behindAll, insertsFrom, replaces, equalResults, results, shorter, steps}
+use Rattle.theory.proofs.Reflect.{says-member, says-eqb, decides-number, true-says, false-says}
+use Rattle.theory.proofs.ListLaws.{member-drop, member-concat-map, concat-map-member, member-upFrom, upFrom-member}
+
+-- a column stands among the first k entries exactly when its place is below k
+position-below : (c k : ℕ) (o : Order) → List·Memᴰ c (take k o) → position eqb c o < k
+position-below c zero o m = absurd (List·Memᴰ·not-nil m)
+position-below c (suc k) [] m = absurd (List·Memᴰ·not-nil m)
+position-below c (suc k) (x ∷ o) m = go (says-eqb c x) (λ t. position-below c k o t)
+  where
+    go : {b : Bool} → Says (c ≡ x) b → (List·Memᴰ c (take k o) → position eqb c o < k) → (elim b as (λ (d : Bool). ℕ) [ true ↦ zero | false ↦ suc (position eqb c o) ]) < suc k
+    go (holds e) rest = suc-le-suc zero-le
+    go (fails n) rest = suc-le-suc (rest (⊎-elim (λ e. absurd (n e)) (λ t. t) (List·Memᴰ·cases-cons m)))
+
+below-position : (c k : ℕ) (o : Order) → position eqb c o < k → k ≤ length o → List·Memᴰ c (take k o)
+below-position c zero o h l = absurd (not-suc-le-zero h)
+below-position c (suc k) [] h l = absurd (not-suc-le-zero l)
+below-position c (suc k) (x ∷ o) h l = go (says-eqb c x) (λ t. below-position c k o t (le-of-suc-le-suc l)) h
+  where
+    go : {b : Bool} → Says (c ≡ x) b → (position eqb c o < k → List·Memᴰ c (take k o)) →
+        (elim b as (λ (d : Bool). ℕ) [ true ↦ zero | false ↦ suc (position eqb c o) ]) < suc k → List·Memᴰ c (x ∷ take k o)
+    go (holds e) rest t = List·Memᴰ·head e
+    go (fails n) rest t = List·Memᴰ·tail (rest (le-of-suc-le-suc t))
+
+-- at its place a column stands
+position-at : (c : ℕ) (o : Order) → List·Memᴰ c o → drop (position eqb c o) o ≡ c ∷ drop (suc (position eqb c o)) o
+position-at c [] m = absurd (List·Memᴰ·not-nil m)
+position-at c (x ∷ o) m = go (says-eqb c x) (λ t. position-at c o t)
+  where
+    go : {b : Bool} → Says (c ≡ x) b → (List·Memᴰ c o → drop (position eqb c o) o ≡ c ∷ drop (suc (position eqb c o)) o) →
+        let k = elim b as (λ (d : Bool). ℕ) [ true ↦ zero | false ↦ suc (position eqb c o) ] in drop k (x ∷ o) ≡ c ∷ drop (suc k) (x ∷ o)
+    go (holds e) rest = ap (λ y. y ∷ o) (sym e)
+    go (fails n) rest = rest (⊎-elim (λ e. absurd (n e)) (λ t. t) (List·Memᴰ·cases-cons m))
+
+-- a place is behind all the columns exactly when they all stand before it
+lefts-before : (l : List ℕ) (o : Order) (k : ℕ) → behindAll l o ≤ k → k ≤ length o → (c : ℕ) → List·Memᴰ c l → List·Memᴰ c (take k o)
+lefts-before [] o k h e c m = absurd (List·Memᴰ·not-nil m)
+lefts-before (x ∷ l) o k h e c m =
+    ⊎-elim (λ p. Memᴰ·cast p (below-position x k o (omega arith) e)) (λ t. lefts-before l o k (omega arith) e c t) (List·Memᴰ·cases-cons m)
+
+before-lefts : (l : List ℕ) (o : Order) (k : ℕ) → ((c : ℕ) → List·Memᴰ c l → List·Memᴰ c (take k o)) → behindAll l o ≤ k
+before-lefts [] o k w = zero-le
+before-lefts (x ∷ l) o k w =
+    let here = position-below x k o (w x (List·Memᴰ·head refl)) in
+    let rest = before-lefts l o k (λ c m. w c (List·Memᴰ·tail m)) in
+    omega arith
+
+-- an ordering with c in at some place from k to the end
+member-inserts : (k c : ℕ) (o : Order) {r : Order} → List·Memᴰ r (insertsFrom k c o) → (n : ℕ) × (k ≤ n) × (n ≤ length o) × (insertAt n c o ≡ r)
+member-inserts k c o m =
+    let t = Memᴰ·of-map (λ n. insertAt n c o) (upFrom k (suc (length o) - k)) m in
+    let u = member-upFrom k (suc (length o) - k) (t .1) in
+    (t .0, u .0, omega arith, t .2)
+
+inserts-member : (k c n : ℕ) (o : Order) → k ≤ n → n ≤ length o → List·Memᴰ (insertAt n c o) (insertsFrom k c o)
+inserts-member k c n o h l = Memᴰ·map (λ j. insertAt j c o) (upFrom-member k (suc (length o) - k) h (omega arith))
+
+member-take : (k : ℕ) (o : Order) {c : ℕ} → List·Memᴰ c (take k o) → List·Memᴰ c o
+member-take k o {c} m = subst (λ (l : Order). List·Memᴰ c l) (take-append-drop k o) (Memᴰ·append-left (drop k o) m)
+
+-- a step, from the equations of its two ends
+step-at : {rs : List Rule} {o r : Order} (p s t : Order) → p ++ s ≡ o → p ++ t ≡ r → Change rs p s t → Step rs o r
+step-at {rs} p s t e f c = subst₂ (Step rs) e f (at p c)
+
+last-off : (c : ℕ) (o : Order) → (x : ℕ) × (dropLast (c ∷ o) ++ (x ∷ []) ≡ c ∷ o)
+last-off c [] = (c, refl)
+last-off c (d ∷ o) = let r = last-off d o in (r .0, ap (λ l. c ∷ l) (r .1))
+
+module _ {rs : List Rule} where
+  shorter-step : (o : Order) {r : Order} → List·Memᴰ r (shorter o) → Step rs o r
+  shorter-step [] m = absurd (List·Memᴰ·not-nil m)
+  shorter-step (c ∷ o) m =
+      let l = last-off c o in step-at (dropLast (c ∷ o)) (l .0 ∷ []) [] (l .1) (append-nil (dropLast (c ∷ o)) ∙ sym (List·Memᴰ·eq-of-singleton m)) shorten
+
+  fix-step : {l : List ℕ} {c : ℕ} (o : Order) {r : Order} → List·Memᴰ (fix l c) rs → List·Memᴰ r (results (fix l c) o) → Step rs o r
+  fix-step {l} {c} o {r} rule = go (says-member decides-number c o)
+    where
+      go : {b : Bool} → Says (List·Memᴰ c o) b → List·Memᴰ r (pick b [] (insertsFrom (behindAll l o) c o)) → Step rs o r
+      go (holds _) m = absurd (List·Memᴰ·not-nil m)
+      go (fails n) m =
+          let t = member-inserts (behindAll l o) c o m in
+          step-at (take (t .0) o) (drop (t .0) o) (c ∷ drop (t .0) o) (take-append-drop (t .0) o) (t .3)
+          (insert rule (lefts-before l o (t .0) (t .1) (t .2)) (λ k. n (member-take (t .0) o k)) (λ k. n (member-drop (t .0) o c k)))
+
+  equal-step : {a b : ℕ} (o : Order) {r : Order} → Same rs a b → List·Memᴰ r (equalResults a b o) → Step rs o r
+  equal-step {a} {b} o {r} s = go (says-member decides-number a o) (says-member decides-number b o)
+    where
+      put : List·Memᴰ a o → ¬ List·Memᴰ b o → (n : ℕ) → (position eqb a o ≡ n) ⊎ (position eqb a o < n) → n ≤ length o → Change rs (take n o) (drop n o) (b ∷ drop n o)
+      put here out n (inl e) l =
+          subst (λ k. Change rs (take k o) (drop k o) (b ∷ drop k o)) e
+          (rw (position-at a o here) (before s (λ k. out (member-take (position eqb a o) o k)) (λ k. out (member-drop (position eqb a o) o b (rw (position-at a o here) k)))))
+      put here out n (inr h) l =
+          behind s (below-position a n o h l) (λ k. out (member-take n o k)) (λ k. out (member-drop n o b k))
+
+      swap : ¬ List·Memᴰ b o → (n : ℕ) → n < length o → {d : Bool} → Says (getD o n 0 ≡ a) d → List·Memᴰ r (pick d (replaceAt n b o ∷ []) []) → Step rs o r
+      swap out n h (holds e) m =
+          let split : take n o ++ (a ∷ drop (suc n) o) ≡ o = ap (λ c. take n o ++ (c ∷ drop (suc n) o)) (sym e) ∙ sym (split-at o n 0 h) in
+          step-at (take n o) (a ∷ drop (suc n) o) (b ∷ drop (suc n) o) split (sym (List·Memᴰ·eq-of-singleton m))
+          (instead s (λ k. out (member-take n o k)) (λ k. out (subst (λ (l : Order). List·Memᴰ b l) split (Memᴰ·append-right (take n o) k))))
+      swap out n h (fails _) m = absurd (List·Memᴰ·not-nil m)
+
+      go : {c d : Bool} → Says (List·Memᴰ a o) c → Says (List·Memᴰ b o) d →
+          List·Memᴰ r (pick c (pick d [] (insertsFrom (position eqb a o) b o ++ replaces a b o)) []) → Step rs o r
+      go (fails _) t m = absurd (List·Memᴰ·not-nil m)
+      go (holds _) (holds _) m = absurd (List·Memᴰ·not-nil m)
+      go (holds here) (fails out) m =
+          ⊎-elim
+          (λ k. let t = member-inserts (position eqb a o) b o k in step-at (take (t .0) o) (drop (t .0) o) (b ∷ drop (t .0) o) (take-append-drop (t .0) o) (t .3) (put here out (t .0) (eq-or-lt-of-le (t .1)) (t .2)))
+          (λ k.
+          let t = member-concat-map (λ n. pick (eqb (getD o n 0) a) (replaceAt n b o ∷ []) []) (upFrom zero (length o)) k in
+          let u = member-upFrom zero (length o) (t .1) in
+          swap out (t .0) (omega arith) (says-eqb (getD o (t .0) 0) a) (t .2))
+          (List·Memᴰ·append-cases (insertsFrom (position eqb a o) b o) m)
+
+  result-step : (rule : Rule) (o : Order) {r : Order} → List·Memᴰ rule rs → List·Memᴰ r (results rule o) → Step rs o r
+  result-step (fix l c) o k m = fix-step o k m
+  result-step (equal a b) o k m = ⊎-elim (λ t. equal-step o (inl k) t) (λ t. equal-step o (inr k) t) (List·Memᴰ·append-cases (equalResults a b o) m)
+
+  -- a member of the computed results is a step
+  pub member-step : (o r : Order) → List·Memᴰ r (steps rs o) → Step rs o r
+  unfolding steps
+  member-step o r m =
+      ⊎-elim (λ k. shorter-step o k) (λ k. let t = member-concat-map (λ c. results c o) rs k in result-step (t .0) o (t .1) (t .2)) (List·Memᴰ·append-cases (shorter o) m)
+
+-- the results of each change
+shorter-member : (p : Order) (x : ℕ) → List·Memᴰ (p ++ []) (shorter (p ++ (x ∷ [])))
+shorter-member [] x = List·Memᴰ·head refl
+shorter-member (c ∷ p) x = List·Memᴰ·head (append-nil (c ∷ p) ∙ sym (off c p))
+  where
+    off : (d : ℕ) (o : Order) → dropLast (d ∷ (o ++ (x ∷ []))) ≡ d ∷ o
+    off d [] = refl
+    off d (e ∷ o) = ap (λ l. d ∷ l) (off e o)
+
+-- c goes in between p and s
+inserts-between : (k c : ℕ) (p s : Order) → k ≤ length p → List·Memᴰ (p ++ (c ∷ s)) (insertsFrom k c (p ++ s))
+inserts-between k c p s h =
+    subst (λ r. List·Memᴰ r (insertsFrom k c (p ++ s))) (rw (take-append-seam, drop-append-seam) refl)
+    (inserts-member k c (length p) (p ++ s) h (rw length-append (omega arith)))
+
+outside-both : (p s : Order) {c : ℕ} → ¬ List·Memᴰ c p → ¬ List·Memᴰ c s → ¬ List·Memᴰ c (p ++ s)
+outside-both p s f g m = ⊎-elim f g (List·Memᴰ·append-cases p m)
+
+fix-member : (l : List ℕ) (c : ℕ) (p s : Order) → ((d : ℕ) → List·Memᴰ d l → List·Memᴰ d p) → ¬ List·Memᴰ c (p ++ s) → List·Memᴰ (p ++ (c ∷ s)) (results (fix l c) (p ++ s))
+fix-member l c p s w out =
+    rw (false-says (says-member decides-number c (p ++ s)) out)
+    (inserts-between (behindAll l (p ++ s)) c p s (before-lefts l (p ++ s) (length p) (λ d m. rw take-append-seam (w d m))))
+
+position-seam : (a : ℕ) (p s : Order) → position eqb a (p ++ (a ∷ s)) ≤ length p
+position-seam a p s =
+    let among : List·Memᴰ a (take (length p + 1) (p ++ (a ∷ s))) = rw take-append-add (Memᴰ·append-right p (List·Memᴰ·head refl)) in
+    omega (arith, position-below a (length p + 1) (p ++ (a ∷ s)) among)
+
+module _ (a b : ℕ) where
+  -- b goes in behind a beginning that a's place is not past, or in the stead of a
+  equal-insert-member : (p s : Order) → List·Memᴰ a (p ++ s) → ¬ List·Memᴰ b (p ++ s) → position eqb a (p ++ s) ≤ length p → List·Memᴰ (p ++ (b ∷ s)) (equalResults a b (p ++ s))
+  equal-insert-member p s here out h =
+      rw (true-says (says-member decides-number a (p ++ s)) here, false-says (says-member decides-number b (p ++ s)) out)
+      (Memᴰ·append-left (replaces a b (p ++ s)) (inserts-between (position eqb a (p ++ s)) b p s h))
+
+  equal-instead-member : (p s : Order) → ¬ List·Memᴰ b (p ++ (a ∷ s)) → List·Memᴰ (p ++ (b ∷ s)) (equalResults a b (p ++ (a ∷ s)))
+  equal-instead-member p s out =
+      let o : Order = p ++ (a ∷ s) in
+      let here : List·Memᴰ a o = Memᴰ·append-right p (List·Memᴰ·head {x = a} refl) in
+      let end : p ++ (b ∷ s) ≡ replaceAt (length p) b o = rw (take-append-seam, ← add-one (length p), drop-append-add) in
+      let put : List·Memᴰ (p ++ (b ∷ s)) (replaceAt (length p) b o ∷ []) = List·Memᴰ·head end in
+      let swapped : List·Memᴰ (p ++ (b ∷ s)) (pick (eqb (getD o (length p) 0) a) (replaceAt (length p) b o ∷ []) []) =
+      rw (true-says (says-eqb (getD o (length p) 0) a) (getD-append-seam p a s 0)) put in
+      rw (true-says (says-member decides-number a o) here, false-says (says-member decides-number b o) out)
+      (Memᴰ·append-right (insertsFrom (position eqb a o) b o)
+      (concat-map-member (λ n. pick (eqb (getD o n 0) a) (replaceAt n b o ∷ []) []) (upFrom-member zero (length o) zero-le (rw length-append (omega arith))) swapped))
+
+module _ {rs : List Rule} where
+  rule-member : {rule : Rule} (o : Order) {r : Order} → List·Memᴰ rule rs → List·Memᴰ r (results rule o) → List·Memᴰ r (steps rs o)
+  unfolding steps
+  rule-member o m k = Memᴰ·append-right (shorter o) (concat-map-member (λ c. results c o) m k)
+
+  same-member : {a b : ℕ} (o : Order) {r : Order} → Same rs a b → List·Memᴰ r (equalResults a b o) → List·Memᴰ r (steps rs o)
+  same-member {a} {b} o (inl m) k = rule-member o m (Memᴰ·append-left (equalResults b a o) k)
+  same-member {a} {b} o (inr m) k = rule-member o m (Memᴰ·append-right (equalResults b a o) k)
+
+  change-member : {p s t : Order} → Change rs p s t → List·Memᴰ (p ++ t) (steps rs (p ++ s))
+  unfolding steps
+  change-member {p} (shorten {x}) = Memᴰ·append-left (concat (map (λ c. results c (p ++ (x ∷ []))) rs)) (shorter-member p x)
+  change-member {p} (insert {l} {r} {s} m w f g) = rule-member (p ++ s) m (fix-member l r p s w (outside-both p s f g))
+  change-member {p} (behind {a} {b} {s} e m f g) =
+      same-member (p ++ s) e (equal-insert-member a b p s (Memᴰ·append-left s m) (outside-both p s f g) (omega (arith, position-below a (length p) (p ++ s) (rw take-append-seam m))))
+  change-member {p} (before {a} {b} {s} e f g) =
+      same-member (p ++ (a ∷ s)) e (equal-insert-member a b p (a ∷ s) (Memᴰ·append-right p (List·Memᴰ·head refl)) (outside-both p (a ∷ s) f g) (position-seam a p s))
+  change-member {p} (instead {a} {b} {s} e f g) = same-member (p ++ (a ∷ s)) e (equal-instead-member a b p s (outside-both p (a ∷ s) f g))
+
+  -- a step is a member of the computed results
+  pub step-member : (o r : Order) → Step rs o r → List·Memᴰ r (steps rs o)
+  step-member o r (at p c) = change-member c

@@ -1,0 +1,13 @@
+-- Document 01 as definitions, in its order.
+pub mod Tests
+pub mod Orders
+pub mod Rows
+pub mod Closure
+pub mod Construction
+pub mod Refusals
+pub mod Query
+pub mod Table
+pub mod Build
+pub mod Lookups
+pub mod Listing
+pub mod Trials

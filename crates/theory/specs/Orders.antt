@@ -1,0 +1,97 @@
+-- Document 01, "Orders, dependencies, derivation": what an order and a dependency are, one step, the start, taking a set. Uncut, as relations.
+use Prim.Native.Nat.{ℕ}
+use mathlib.Core.Bool.{Bool}
+use mathlib.Core.Logic.{_⊎_}
+use mathlib.Core.List.{List, [], _∷_, _++_, map, List·Memᴰ, IsPrefix}
+use lib.Dec.{eqb}
+use Rattle.theory.specs.Tests.{pick, sameList}
+
+-- A column is a number. An order, and a derived ordering, is a list of columns, most significant first; the empty one is an unsorted scan.
+abbrev pub Order : Type 0
+Order = List ℕ
+
+abbrev pub sameOrder : Order → Order → Bool
+sameOrder = sameList eqb
+
+-- A functional dependency. Document 01's *fix*: the left columns settle the right one, and with no left columns it is a constant.
+-- Its *equal*: two columns agree in every row.
+pub data Rule : Type 0 where
+  fix : List ℕ → ℕ → Rule
+  equal : ℕ → ℕ → Rule
+
+-- A dependency belongs to a numbered set.
+pub record Dependency : Type 0 where
+  pub set : ℕ
+  pub rule : Rule
+
+-- What a planner says of one query. Produced orders can be made by an operator, tested orders are only looked for.
+pub record Query : Type 0 where
+  pub columns : ℕ
+  pub produced : List Order
+  pub tested : List Order
+  pub sets : ℕ
+  pub dependencies : List Dependency
+
+-- The interesting orders: both kinds, the produced ones first.
+abbrev pub interesting : Query → List Order
+interesting q = q .produced ++ q .tested
+
+-- The rules of the dependencies that belong to set s.
+abbrev pub rulesIn : ℕ → List Dependency → List Rule
+rulesIn s [] = []
+rulesIn s (d ∷ ds) = pick (eqb (d .set) s) (d .rule ∷ rulesIn s ds) (rulesIn s ds)
+
+abbrev pub rulesOf : Query → ℕ → List Rule
+rulesOf q s = rulesIn s (q .dependencies)
+
+-- All rules, whatever their set.
+abbrev pub allRules : Query → List Rule
+allRules q = map (λ (d : Dependency). d .rule) (q .dependencies)
+
+-- An equal, either way round.
+abbrev pub Same : List Rule → ℕ → ℕ → Type 0
+Same rs a b = List·Memᴰ (equal a b) rs ⊎ List·Memᴰ (equal b a) rs
+
+-- What one step under the rules does behind a beginning p: the entries s that follow it become t.
+pub data Change (rs : List Rule) (p : Order) : Order → Order → Type 0 where
+  -- Prefix: the last entry is taken away.
+  shorten : {x : ℕ} → Change rs p (x ∷ []) []
+  -- Insert: the left columns of a fix all occur in p, the right one occurs nowhere, and goes in directly behind p.
+  insert : {l : List ℕ} {r : ℕ} {s : Order} → List·Memᴰ (fix l r) rs → ((c : ℕ) → List·Memᴰ c l → List·Memᴰ c p) → ¬ List·Memᴰ r p → ¬ List·Memᴰ r s → Change rs p s (r ∷ s)
+  -- Equal a, b, where b occurs nowhere: b goes in at a place behind a, ..
+  behind : {a b : ℕ} {s : Order} → Same rs a b → List·Memᴰ a p → ¬ List·Memᴰ b p → ¬ List·Memᴰ b s → Change rs p s (b ∷ s)
+  -- .. or directly before a, ..
+  before : {a b : ℕ} {s : Order} → Same rs a b → ¬ List·Memᴰ b p → ¬ List·Memᴰ b (a ∷ s) → Change rs p (a ∷ s) (b ∷ a ∷ s)
+  -- .. or in the stead of a.
+  instead : {a b : ℕ} {s : Order} → Same rs a b → ¬ List·Memᴰ b p → ¬ List·Memᴰ b (a ∷ s) → Change rs p (a ∷ s) (b ∷ s)
+
+-- One step from an ordering under the rules, at any place.
+pub data Step (rs : List Rule) : Order → Order → Type 0 where
+  at : (p : Order) {s t : Order} → Change rs p s t → Step rs (p ++ s) (p ++ t)
+
+-- A set of orderings.
+abbrev pub Orderings : Type 1
+Orderings = Order → Type 0
+
+-- All that steps under the rules give from X, repeated until nothing is added: the least set that holds X and is closed under steps.
+-- Each result is replaced by `cut` of it, so that one definition serves the derivation and the construction.
+pub data Reach (cut : Order → Order) (rs : List Rule) (X : Orderings) : Order → Type 0 where
+  given : {o : Order} → X o → Reach cut rs X o
+  step : {o r : Order} → Reach cut rs X o → Step rs o r → Reach cut rs X (cut r)
+
+-- The sets, each by its rules, are taken one after the other. A set is used when it is taken and not remembered.
+abbrev pub Taken : (Order → Order) → Orderings → List (List Rule) → Orderings
+Taken cut X [] = X
+Taken cut X (rs ∷ rss) = Taken cut (Reach cut rs X) rss
+
+-- The start from an order: that order and all its prefixes.
+abbrev pub Start : Order → Orderings
+Start p o = IsPrefix o p
+
+-- In the derivation nothing is cut.
+abbrev pub whole : Order → Order
+whole o = o
+
+-- The orderings derived from the start order p by taking the sets ss in their sequence. Everything that speaks of derivation goes through this name.
+abbrev pub After : Query → Order → List ℕ → Orderings
+After q p ss = Taken whole (Start p) (map (rulesOf q) ss)

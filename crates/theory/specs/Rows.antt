@@ -1,0 +1,45 @@
+-- Document 01, "Orders, dependencies, derivation", on rows: when rows stand in an order and when they obey a dependency.
+use Prim.Native.Nat.{ℕ, _<_}
+use mathlib.Core.Path.{_≡_}
+use mathlib.Core.Logic.{_⊎_}
+use mathlib.Core.List.{List, [], _∷_, List·Memᴰ}
+use lib.IntN.{ℤ, pos, negsuc}
+use lib.ListN.{length, getD}
+use Rattle.theory.specs.Orders.{Order, Rule, fix, equal, Query, rulesOf}
+
+-- The order of the whole numbers, negative ones included: `pos n` is n and `negsuc n` is -(n + 1).
+abbrev pub Less : ℤ → ℤ → Type 0
+Less (pos a) (pos b) = a < b
+Less (pos a) (negsuc b) = ⊥
+Less (negsuc a) (pos b) = Unit {0}
+Less (negsuc a) (negsuc b) = b < a
+
+-- A row is a list of whole numbers, one for each column.
+abbrev pub Row : Type 0
+Row = List ℤ
+
+-- A row's value in a column.
+abbrev pub cell : Row → ℕ → ℤ
+cell row c = getD row c (pos 0)
+
+-- The first row compares below the second, the columns of the order taken in turn and ascending.
+abbrev pub Below : Row → Row → Order → Type 0
+Below x y [] = ⊥
+Below x y (c ∷ o) = Less (cell x c) (cell y c) ⊎ ((cell x c ≡ cell y c) × Below x y o)
+
+-- Rows *stand in* an order when no row compares below an earlier one.
+abbrev pub Stands : List Row → Order → Type 0
+Stands rows o = (i j : ℕ) → i < j → j < length rows → ¬ Below (getD rows j []) (getD rows i []) o
+
+-- Rows *obey* a fix when any two rows alike in all its left columns are alike in the right one, and an equal when each row has one value in both columns.
+abbrev pub Obeys : List Row → Rule → Type 0
+Obeys rows (fix l r) = (x y : Row) → List·Memᴰ x rows → List·Memᴰ y rows → ((c : ℕ) → List·Memᴰ c l → cell x c ≡ cell y c) → cell x r ≡ cell y r
+Obeys rows (equal a b) = (x : Row) → List·Memᴰ x rows → cell x a ≡ cell x b
+
+-- Rows obey every dependency of the sets ss.
+abbrev pub ObeysSets : Query → List ℕ → List Row → Type 0
+ObeysSets q ss rows = (s : ℕ) → List·Memᴰ s ss → (r : Rule) → List·Memᴰ r (rulesOf q s) → Obeys rows r
+
+-- Any rows stand in o that stand in p and obey every dependency of the sets ss.
+abbrev pub HoldsOfRows : Query → Order → List ℕ → Order → Type 0
+HoldsOfRows q p ss o = (rows : List Row) → Stands rows p → ObeysSets q ss rows → Stands rows o

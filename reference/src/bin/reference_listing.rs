@@ -1,0 +1,9 @@
+//! Prints the listing of the query on standard input.
+
+use std::io::{self, Read, Write};
+
+fn main() -> io::Result<()> {
+    let mut query = Vec::new();
+    io::stdin().read_to_end(&mut query)?;
+    io::stdout().write_all(&reference::listing(&query))
+}

@@ -1,0 +1,223 @@
+//! The query description: what it says, and its bytes.
+
+use std::collections::HashSet;
+
+use crate::refusal;
+
+/// An order: 0 to 4 different columns, most significant first.
+pub type Order = Vec<u8>;
+
+/// A set of columns, bit c for column c.
+pub type ColumnSet = u16;
+
+/// Sizes before the two arrays of a query.
+const SIZES: usize = 5;
+/// Bytes per item in the second array of a query.
+const ITEM_BYTES: usize = 4;
+/// What unused bytes of an item hold.
+const UNUSED: u8 = 255;
+/// The kind of an equal; smaller kinds are fixes with so many left columns.
+const EQUAL_KIND: u8 = 4;
+
+/// What a dependency says about rows.
+#[derive(Clone, Debug, PartialEq, Eq)]
+pub enum Rule {
+    /// Rows alike in all left columns are alike in the right one. Without left
+    /// columns the right one is a constant.
+    Fix {
+        /// The 0 to 3 left columns.
+        left: Vec<u8>,
+        /// The right column.
+        right: u8,
+    },
+    /// Each row has one value in both columns.
+    Equal(u8, u8),
+}
+
+/// A rule and the number of the set it belongs to.
+#[derive(Clone, Debug, PartialEq, Eq)]
+pub struct Dependency {
+    /// The set that brings this dependency.
+    pub set: u8,
+    /// What it says.
+    pub rule: Rule,
+}
+
+impl Dependency {
+    /// A fix in a set.
+    pub fn fix(set: u8, left: &[u8], right: u8) -> Self {
+        let left = left.to_vec();
+        Self {
+            set,
+            rule: Rule::Fix { left, right },
+        }
+    }
+
+    /// An equal in a set.
+    pub fn equal(set: u8, one: u8, other: u8) -> Self {
+        Self {
+            set,
+            rule: Rule::Equal(one, other),
+        }
+    }
+}
+
+/// A query description.
+#[derive(Clone, Debug, PartialEq, Eq)]
+pub struct Query {
+    /// N, the number of columns.
+    pub columns: u8,
+    /// The orders an operator can make.
+    pub produced: Vec<Order>,
+    /// The orders that are only looked for.
+    pub tested: Vec<Order>,
+    /// S, the number of sets.
+    pub sets: u8,
+    /// The dependencies of all sets.
+    pub dependencies: Vec<Dependency>,
+}
+
+impl Query {
+    /// Reads a query's bytes, or gives the number of the first check that
+    /// refuses them, 1 to 6.
+    pub fn read(bytes: &[u8]) -> Result<Self, u8> {
+        let Some((&[columns, produced, tested, sets, dependencies], arrays)) =
+            bytes.split_first_chunk::<SIZES>()
+        else {
+            return Err(refusal::LENGTH);
+        };
+        let within_limits = (1..=12).contains(&columns)
+            && (1..=8).contains(&produced)
+            && tested <= 8
+            && sets <= 8
+            && dependencies <= 16;
+        if !within_limits {
+            return Err(refusal::SIZE);
+        }
+        let (produced, tested) = (usize::from(produced), usize::from(tested));
+        let items = produced + tested + usize::from(dependencies);
+        if arrays.len() != items * (1 + ITEM_BYTES) {
+            return Err(refusal::LENGTH);
+        }
+
+        let (heads, fields) = arrays.split_at(items);
+        let mut items = heads.iter().zip(fields.chunks_exact(ITEM_BYTES));
+        let mut read_orders = |count| {
+            items
+                .by_ref()
+                .take(count)
+                .map(|(&head, fields)| read_order(head, fields, columns))
+                .collect::<Result<Vec<Order>, u8>>()
+        };
+        let produced = read_orders(produced)?;
+        let tested = read_orders(tested)?;
+        let dependencies = items
+            .map(|(&head, fields)| read_dependency(head, fields, columns, sets))
+            .collect::<Result<Vec<Dependency>, u8>>()?;
+
+        let query = Self {
+            columns,
+            produced,
+            tested,
+            sets,
+            dependencies,
+        };
+        let mut seen = HashSet::new();
+        if query.interesting().all(|order| seen.insert(order)) {
+            Ok(query)
+        } else {
+            Err(refusal::TWIN)
+        }
+    }
+
+    /// Writes the query's bytes. Nothing is checked, so that refused queries
+    /// can be made too; of an order longer than four columns the four first
+    /// are written.
+    pub fn write(&self) -> Vec<u8> {
+        let orders = self
+            .interesting()
+            .map(|order| (order.len() as u8, order.clone()));
+        let dependencies = self.dependencies.iter().map(|dependency| {
+            let (kind, columns) = match &dependency.rule {
+                Rule::Fix { left, right } => {
+                    (left.len() as u8, [left.as_slice(), &[*right]].concat())
+                }
+                Rule::Equal(one, other) => (EQUAL_KIND, vec![*one, *other]),
+            };
+            (16 * kind + dependency.set, columns)
+        });
+        let (heads, fields): (Vec<u8>, Vec<Vec<u8>>) = orders.chain(dependencies).unzip();
+
+        let mut bytes = vec![
+            self.columns,
+            self.produced.len() as u8,
+            self.tested.len() as u8,
+            self.sets,
+            self.dependencies.len() as u8,
+        ];
+        bytes.extend(heads);
+        for mut columns in fields {
+            columns.resize(ITEM_BYTES, UNUSED);
+            bytes.extend(columns);
+        }
+        bytes
+    }
+
+    /// The interesting orders: the produced ones, then the tested ones.
+    pub fn interesting(&self) -> impl Iterator<Item = &Order> {
+        self.produced.iter().chain(&self.tested)
+    }
+
+    /// The dependencies of one set.
+    pub fn dependencies_of(&self, set: u8) -> impl Iterator<Item = &Dependency> + Clone {
+        self.dependencies
+            .iter()
+            .filter(move |dependency| dependency.set == set)
+    }
+}
+
+/// The set of the columns in a list.
+pub fn column_set(columns: &[u8]) -> ColumnSet {
+    columns.iter().fold(0, |set, column| set | 1 << column)
+}
+
+fn read_order(head: u8, fields: &[u8], columns: u8) -> Result<Order, u8> {
+    let length = usize::from(head);
+    if length > ITEM_BYTES {
+        return Err(refusal::ITEM);
+    }
+    read_columns(length, fields, columns)
+}
+
+fn read_dependency(head: u8, fields: &[u8], columns: u8, sets: u8) -> Result<Dependency, u8> {
+    let (kind, set) = (head / 16, head % 16);
+    if kind > EQUAL_KIND || set >= sets {
+        return Err(refusal::ITEM);
+    }
+    let rule = if kind == EQUAL_KIND {
+        let pair = read_columns(2, fields, columns)?;
+        Rule::Equal(pair[0], pair[1])
+    } else {
+        let lefts = usize::from(kind);
+        let mut left = read_columns(lefts + 1, fields, columns)?;
+        let right = left.remove(lefts);
+        Rule::Fix { left, right }
+    };
+    Ok(Dependency { set, rule })
+}
+
+/// Reads the columns at the front of an item's bytes, after its head's own
+/// part of check 3: the rest of check 3, then 4, then 5.
+fn read_columns(used: usize, fields: &[u8], columns: u8) -> Result<Vec<u8>, u8> {
+    let (used, unused) = fields.split_at(used);
+    if unused.iter().any(|&byte| byte != UNUSED) {
+        return Err(refusal::ITEM);
+    }
+    if used.iter().any(|&column| column >= columns) {
+        return Err(refusal::COLUMN);
+    }
+    if column_set(used).count_ones() as usize != used.len() {
+        return Err(refusal::REPEAT);
+    }
+    Ok(used.to_vec())
+}

@@ -1,0 +1,25 @@
+//! The numbers of the refusal list, under the list's own words.
+
+/// Fewer bytes than the sizes take, or a total other than they imply.
+pub const LENGTH: u8 = 1;
+/// A size outside its limits.
+pub const SIZE: u8 = 2;
+/// An order length above 4, a kind above 4, a set not below S, or an unused
+/// byte that is not 255.
+pub const ITEM: u8 = 3;
+/// A column not below N.
+pub const COLUMN: u8 = 4;
+/// A column twice in one order or one dependency.
+pub const REPEAT: u8 = 5;
+/// Two equal interesting orders.
+pub const TWIN: u8 = 6;
+/// More than 256 nodes.
+pub const ORDERINGS: u8 = 7;
+/// More than 128 states.
+pub const STATES: u8 = 8;
+/// Scratch below 16,384 bytes, or output shorter than the table.
+pub const SPACE: u8 = 9;
+/// A state, produced order, set or interesting order not in the table.
+pub const HANDLE: u8 = 10;
+/// A start or successor not below Q, or a held bit past P+T set.
+pub const ROW: u8 = 11;

@@ -1,0 +1,45 @@
+//! What orders and dependencies mean for rows.
+
+use crate::query::Rule;
+
+/// A row: one whole number per column.
+pub type Row = Vec<i64>;
+
+/// Whether rows stand in an order: no row compares below an earlier one, the
+/// order's columns taken in turn and ascending.
+pub fn stand_in(rows: &[Row], order: &[u8]) -> bool {
+    rows.iter().enumerate().all(|(place, later)| {
+        rows[..place]
+            .iter()
+            .all(|earlier| sort_key(later, order) >= sort_key(earlier, order))
+    })
+}
+
+/// Whether rows obey a rule: for a fix, any two rows alike in all its left
+/// columns are alike in the right one; for an equal, each row has one value in
+/// both columns.
+pub fn obey(rows: &[Row], rule: &Rule) -> bool {
+    match rule {
+        Rule::Fix { left, right } => rows.iter().enumerate().all(|(place, one)| {
+            rows[..place]
+                .iter()
+                .all(|other| !alike(one, other, left) || alike(one, other, &[*right]))
+        }),
+        Rule::Equal(one, other) => rows
+            .iter()
+            .all(|row| row[usize::from(*one)] == row[usize::from(*other)]),
+    }
+}
+
+/// A row's values in an order's columns, which compare as rows do in the order.
+pub fn sort_key(row: &Row, order: &[u8]) -> Vec<i64> {
+    order
+        .iter()
+        .map(|&column| row[usize::from(column)])
+        .collect()
+}
+
+/// Whether two rows are alike in all of some columns.
+pub fn alike(one: &Row, other: &Row, columns: &[u8]) -> bool {
+    sort_key(one, columns) == sort_key(other, columns)
+}

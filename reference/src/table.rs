@@ -1,0 +1,156 @@
+//! The table's bytes: writing them, checking their form, and looking them up.
+//! Checks and lookups know the bytes and nothing of the query.
+
+use crate::construction::Construction;
+use crate::query::Query;
+use crate::refusal;
+
+/// Sizes before the rest of a table.
+const SIZES: usize = 4;
+/// Bytes of held bits per state.
+const HELD_BYTES: usize = 2;
+
+/// The bytes of the table of a query and its construction.
+pub fn write(query: &Query, construction: &Construction) -> Vec<u8> {
+    let mut bytes = vec![
+        construction.states.len() as u8,
+        query.produced.len() as u8,
+        query.tested.len() as u8,
+        query.sets,
+    ];
+    bytes.extend(construction.starts.iter().map(|&state| state as u8));
+    let successors = construction.successors.iter().flatten();
+    bytes.extend(successors.map(|&state| state as u8));
+    bytes.extend(construction.held.iter().flat_map(|bits| bits.to_le_bytes()));
+    bytes
+}
+
+/// Checks a table's form: its length, its sizes, and that every start and
+/// successor is a state and no held bit past P+T is set. Refuses with 1, 2 or
+/// 11.
+pub fn check(table: &[u8]) -> Result<(), u8> {
+    let layout = Layout::read(table)?;
+    let (starts_and_successors, held) = table[SIZES..].split_at(layout.held_at(0) - SIZES);
+    let states_exist = starts_and_successors
+        .iter()
+        .all(|&state| usize::from(state) < layout.states);
+    let bits_exist = held
+        .chunks_exact(HELD_BYTES)
+        .map(|bytes| u32::from(u16::from_le_bytes([bytes[0], bytes[1]])))
+        .all(|bits| bits >> layout.interesting() == 0);
+    if states_exist && bits_exist {
+        Ok(())
+    } else {
+        Err(refusal::ROW)
+    }
+}
+
+/// The start state of a produced order. Refuses with 1, 2, 10 or 11.
+pub fn enter(table: &[u8], produced: u8) -> Result<u8, u8> {
+    let layout = Layout::read(table)?;
+    let produced = handle(produced, layout.produced)?;
+    layout.state(table[layout.start_at(produced)])
+}
+
+/// The successor of a state under a set. Refuses with 1, 2, 10 or 11.
+pub fn take(table: &[u8], state: u8, set: u8) -> Result<u8, u8> {
+    let layout = Layout::read(table)?;
+    let state = handle(state, layout.states)?;
+    let set = handle(set, layout.sets)?;
+    layout.state(table[layout.row_at(state) + set])
+}
+
+/// Whether a state holds an interesting order. Refuses with 1, 2 or 10.
+pub fn ask(table: &[u8], state: u8, order: u8) -> Result<bool, u8> {
+    let layout = Layout::read(table)?;
+    let state = handle(state, layout.states)?;
+    let order = handle(order, layout.interesting())?;
+    let byte = table[layout.held_at(state) + order / 8];
+    Ok(byte >> (order % 8) & 1 == 1)
+}
+
+/// A state's successor row, as it is in the table. Refuses with 1, 2 or 10.
+pub fn row(table: &[u8], state: u8) -> Result<&[u8], u8> {
+    let layout = Layout::read(table)?;
+    let state = handle(state, layout.states)?;
+    Ok(&table[layout.row_at(state)..][..layout.sets])
+}
+
+/// The state after entering by a produced order and taking some sets in turn.
+pub fn follow(table: &[u8], produced: u8, sets: &[u8]) -> Result<u8, u8> {
+    sets.iter()
+        .try_fold(enter(table, produced)?, |state, &set| {
+            take(table, state, set)
+        })
+}
+
+/// A handle as an index, or 10 when it is not below the count.
+fn handle(number: u8, count: usize) -> Result<usize, u8> {
+    let number = usize::from(number);
+    if number < count {
+        Ok(number)
+    } else {
+        Err(refusal::HANDLE)
+    }
+}
+
+/// The sizes of a table, and the places they imply.
+struct Layout {
+    states: usize,
+    produced: usize,
+    tested: usize,
+    sets: usize,
+}
+
+impl Layout {
+    /// Reads the sizes, with the checks 1, 2, 1.
+    fn read(table: &[u8]) -> Result<Self, u8> {
+        let Some((&[states, produced, tested, sets], _)) = table.split_first_chunk::<SIZES>()
+        else {
+            return Err(refusal::LENGTH);
+        };
+        let within_limits =
+            (1..=128).contains(&states) && (1..=8).contains(&produced) && tested <= 8 && sets <= 8;
+        if !within_limits {
+            return Err(refusal::SIZE);
+        }
+        let layout = Self {
+            states: states.into(),
+            produced: produced.into(),
+            tested: tested.into(),
+            sets: sets.into(),
+        };
+        if table.len() == layout.held_at(layout.states) {
+            Ok(layout)
+        } else {
+            Err(refusal::LENGTH)
+        }
+    }
+
+    fn interesting(&self) -> usize {
+        self.produced + self.tested
+    }
+
+    fn start_at(&self, produced: usize) -> usize {
+        SIZES + produced
+    }
+
+    fn row_at(&self, state: usize) -> usize {
+        self.start_at(self.produced) + state * self.sets
+    }
+
+    /// Where a state's held bits begin; for the number of states, where the
+    /// table ends.
+    fn held_at(&self, state: usize) -> usize {
+        self.row_at(self.states) + state * HELD_BYTES
+    }
+
+    /// A state number read from the table, or 11 when there is no such state.
+    fn state(&self, number: u8) -> Result<u8, u8> {
+        if usize::from(number) < self.states {
+            Ok(number)
+        } else {
+            Err(refusal::ROW)
+        }
+    }
+}

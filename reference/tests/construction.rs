@@ -1,0 +1,210 @@
+//! What is wanted and kept, and the numbering of states.
+
+use std::collections::{HashMap, HashSet};
+
+use reference::builder::build_table;
+use reference::construction::{Construction, Keep};
+use reference::derivation::{start, Ordering};
+use reference::model::Model;
+use reference::query::column_set;
+use reference::random::Random;
+use reference::samples::{self, Shape};
+use reference::{listing, table, Dependency, Query};
+
+/// Random small queries that are not refused, with their constructions.
+fn constructions(seed: u64, count: usize) -> impl Iterator<Item = (Query, Construction)> {
+    let mut random = Random::new(seed);
+    std::iter::repeat_with(move || samples::query(&mut random, Shape::SMALL))
+        .filter_map(|query| {
+            let construction = Construction::of(&query).ok()?;
+            Some((query, construction))
+        })
+        .take(count)
+}
+
+#[test]
+fn wanted_goes_from_right_to_left_columns_and_over_equals() {
+    let query = Query {
+        columns: 12,
+        produced: vec![vec![0]],
+        tested: vec![vec![1, 0]],
+        sets: 2,
+        dependencies: vec![
+            Dependency::fix(0, &[3], 2),
+            Dependency::equal(1, 4, 3),
+            Dependency::fix(1, &[2, 5], 1),
+            Dependency::equal(0, 6, 0),
+            Dependency::fix(0, &[0, 1], 7),
+            Dependency::fix(0, &[8], 7),
+            Dependency::equal(1, 7, 9),
+            Dependency::fix(1, &[], 10),
+        ],
+    };
+    let keep = Keep::of(&query);
+    assert_eq!(keep.wanted, column_set(&[0, 1, 2, 3, 4, 5, 6]));
+    assert_eq!(keep.longest, 2);
+}
+
+#[test]
+fn the_kept_part_is_the_longest_beginning_that_is_wanted_and_short_enough() {
+    let keep = Keep {
+        longest: 3,
+        wanted: column_set(&[0, 1, 2, 4, 5]),
+    };
+    assert_eq!(keep.kept_part(&[]), []);
+    assert_eq!(keep.kept_part(&[3, 0]), []);
+    assert_eq!(keep.kept_part(&[1, 3, 0]), [1]);
+    assert_eq!(keep.kept_part(&[5, 4, 0]), [5, 4, 0]);
+    assert_eq!(keep.kept_part(&[5, 4, 0, 1]), [5, 4, 0]);
+    assert_eq!(keep.kept_part(&[5, 4, 0, 3]), [5, 4, 0]);
+}
+
+#[test]
+fn with_only_the_empty_order_nothing_is_kept_but_it() {
+    let query = Query {
+        columns: 2,
+        produced: vec![vec![]],
+        tested: vec![],
+        sets: 1,
+        dependencies: vec![Dependency::fix(0, &[], 1)],
+    };
+    let expected = "states 1 nodes 1\nstart 0 0\nstate 0 next 0 held 1\n";
+    assert_eq!(listing(&query.write()), expected.as_bytes());
+}
+
+#[test]
+fn a_state_that_is_a_start_keeps_its_number() {
+    let query = Query {
+        columns: 2,
+        produced: vec![vec![0], vec![0, 1]],
+        tested: vec![],
+        sets: 1,
+        dependencies: vec![Dependency::fix(0, &[0], 1)],
+    };
+    let construction = Construction::of(&query).expect("within the limits");
+    assert_eq!(construction.starts, [0, 1]);
+    assert_eq!(construction.successors, [[1], [1]]);
+}
+
+#[test]
+fn every_produced_order_has_its_own_start() {
+    for (query, construction) in constructions(1, 500) {
+        assert_eq!(construction.starts.len(), query.produced.len());
+        for (order, &state) in query.produced.iter().zip(&construction.starts) {
+            assert_eq!(construction.orderings_of(state), start(order));
+        }
+    }
+}
+
+#[test]
+fn states_are_numbered_starts_first_then_as_they_are_met() {
+    for (_, construction) in constructions(2, 500) {
+        let successors = construction.successors.iter().flatten();
+        let mut next_free = 0;
+        for &state in construction.starts.iter().chain(successors) {
+            assert!(state <= next_free);
+            next_free = next_free.max(state + 1);
+        }
+        assert_eq!(next_free, construction.states.len());
+        let different: HashSet<_> = construction.states.iter().collect();
+        assert_eq!(different.len(), construction.states.len());
+    }
+}
+
+#[test]
+fn the_nodes_are_the_members_of_the_states() {
+    for (query, construction) in constructions(3, 500) {
+        let keep = Keep::of(&query);
+        let members: HashSet<Ordering> = (0..construction.states.len())
+            .flat_map(|state| construction.orderings_of(state))
+            .collect();
+        let nodes: HashSet<Ordering> = construction.nodes.iter().cloned().collect();
+        assert_eq!(members, nodes);
+        assert_eq!(nodes.len(), construction.nodes.len());
+        assert!(nodes.iter().all(|node| keep.kept_part(node) == *node));
+    }
+}
+
+#[test]
+fn a_state_is_what_is_kept_of_the_uncut_orderings() {
+    for (query, construction) in constructions(4, 500) {
+        let keep = Keep::of(&query);
+        let mut models: HashMap<usize, Model> = HashMap::new();
+        for (produced, &state) in (0..).zip(&construction.starts) {
+            let mut model = Model::new(&query);
+            model.enter(produced).expect("produced");
+            models.insert(state, model);
+        }
+        for (state, row) in construction.successors.iter().enumerate() {
+            let model = models[&state].clone();
+            let orderings = model.orderings().iter();
+            let kept: HashSet<Ordering> = orderings.map(|uncut| keep.kept_part(uncut)).collect();
+            assert_eq!(kept, construction.orderings_of(state));
+            assert!(kept.is_subset(model.orderings()));
+            for (set, &successor) in (0..).zip(row) {
+                models.entry(successor).or_insert_with(|| {
+                    let mut taken = model.clone();
+                    taken.take(set).expect("a set");
+                    taken
+                });
+            }
+        }
+    }
+}
+
+#[test]
+fn a_set_taken_again_directly_after_itself_changes_no_state() {
+    for (_, construction) in constructions(5, 1000) {
+        for row in &construction.successors {
+            for (set, &taken) in row.iter().enumerate() {
+                assert_eq!(construction.successors[taken][set], taken);
+            }
+        }
+    }
+}
+
+#[test]
+fn an_empty_set_changes_no_state() {
+    let mut empty_sets = 0;
+    for (query, construction) in constructions(6, 1000) {
+        for set in 0..query.sets {
+            if query.dependencies_of(set).next().is_none() {
+                empty_sets += 1;
+                for (state, row) in construction.successors.iter().enumerate() {
+                    assert_eq!(row[usize::from(set)], state);
+                }
+            }
+        }
+    }
+    assert!(empty_sets > 300, "only {empty_sets} empty sets");
+}
+
+#[test]
+fn table_and_listing_say_the_same() {
+    for (query, construction) in constructions(7, 500) {
+        let bytes = query.write();
+        let table = build_table(&bytes).expect("not refused");
+        assert_eq!(table::check(&table), Ok(()));
+        let mut lines = vec![format!(
+            "states {} nodes {}",
+            table[0],
+            construction.nodes.len()
+        )];
+        for produced in 0..query.produced.len() as u8 {
+            let state = table::enter(&table, produced).expect("granted");
+            lines.push(format!("start {produced} {state}"));
+        }
+        for state in 0..table[0] {
+            let mut words = vec!["state".to_string(), state.to_string(), "next".to_string()];
+            let row = table::row(&table, state).expect("granted");
+            words.extend(row.iter().map(u8::to_string));
+            let held = (0..table[1] + table[2])
+                .filter(|&order| table::ask(&table, state, order) == Ok(true))
+                .fold(0, |bits, order| bits | 1 << order);
+            words.extend(["held".to_string(), u16::to_string(&held)]);
+            lines.push(words.join(" "));
+        }
+        let expected = lines.join("\n") + "\n";
+        assert_eq!(listing(&bytes), expected.as_bytes());
+    }
+}

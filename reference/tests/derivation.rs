@@ -1,0 +1,173 @@
+//! Steps and closures, uncut, against their description.
+
+use std::collections::HashSet;
+
+use reference::derivation::{closure, start, steps, Ordering};
+use reference::{Dependency, Rule};
+
+/// All orderings over so many columns.
+fn all_orderings(columns: u8) -> Vec<Ordering> {
+    let mut orderings: Vec<Ordering> = vec![vec![]];
+    let mut next = 0;
+    while next < orderings.len() {
+        for column in 0..columns {
+            if !orderings[next].contains(&column) {
+                let longer = [orderings[next].as_slice(), &[column]].concat();
+                orderings.push(longer);
+            }
+        }
+        next += 1;
+    }
+    orderings
+}
+
+/// All dependencies over so many columns with at most three left columns.
+fn all_dependencies(columns: u8) -> Vec<Dependency> {
+    let mut dependencies = Vec::new();
+    for left in all_orderings(columns) {
+        if left.len() <= 3 {
+            let rights = (0..columns).filter(|right| !left.contains(right));
+            dependencies.extend(rights.map(|right| Dependency::fix(0, &left, right)));
+        }
+        if let [one, other] = left[..] {
+            dependencies.push(Dependency::equal(0, one, other));
+        }
+    }
+    dependencies
+}
+
+fn place(ordering: &[u8], column: u8) -> Option<usize> {
+    ordering.iter().position(|&entry| entry == column)
+}
+
+fn without(ordering: &[u8], column: u8) -> Ordering {
+    let mut rest = ordering.to_vec();
+    rest.retain(|&entry| entry != column);
+    rest
+}
+
+/// Whether a result is an ordering with one column more, and where that is.
+fn added_at(ordering: &[u8], result: &[u8], column: u8) -> Option<usize> {
+    let fits = place(ordering, column).is_none() && without(result, column) == ordering;
+    place(result, column).filter(|_| fits)
+}
+
+/// Whether one step under a rule leads from an ordering to a result, said of
+/// the two lists instead of found by making results.
+fn is_step(ordering: &[u8], result: &[u8], rule: &Rule) -> bool {
+    let is_prefix = result.len() + 1 == ordering.len() && ordering.starts_with(result);
+    let one_way = |from: u8, to: u8| {
+        let Some(from_place) = place(ordering, from) else {
+            return false;
+        };
+        let added = added_at(ordering, result, to).is_some_and(|to_place| {
+            let behind = place(result, from) < Some(to_place);
+            let directly_before = place(result, from) == Some(to_place + 1);
+            behind || directly_before
+        });
+        let in_its_stead = place(ordering, to).is_none()
+            && result.len() == ordering.len()
+            && (0..result.len()).all(|at| {
+                let expected = if at == from_place { to } else { ordering[at] };
+                result[at] == expected
+            });
+        added || in_its_stead
+    };
+    is_prefix
+        || match rule {
+            Rule::Fix { left, right } => {
+                added_at(ordering, result, *right).is_some_and(|right_place| {
+                    left.iter().all(|&column| {
+                        place(result, column).is_some_and(|left_place| left_place < right_place)
+                    })
+                })
+            }
+            Rule::Equal(one, other) => one_way(*one, *other) || one_way(*other, *one),
+        }
+}
+
+#[test]
+fn steps_are_those_described() {
+    let orderings = all_orderings(4);
+    assert_eq!(orderings.len(), 65);
+    for dependency in all_dependencies(4) {
+        for ordering in &orderings {
+            let expected: HashSet<Ordering> = orderings
+                .iter()
+                .filter(|result| is_step(ordering, result, &dependency.rule))
+                .cloned()
+                .collect();
+            assert_eq!(
+                steps(ordering, [&dependency]),
+                expected,
+                "from {ordering:?} under {dependency:?}"
+            );
+        }
+    }
+}
+
+#[test]
+fn steps_under_several_dependencies_are_those_under_each() {
+    let dependencies = all_dependencies(3);
+    for ordering in all_orderings(3) {
+        let together = steps(&ordering, &dependencies);
+        let each: HashSet<Ordering> = dependencies
+            .iter()
+            .flat_map(|dependency| steps(&ordering, [dependency]))
+            .collect();
+        assert_eq!(together, each);
+    }
+}
+
+#[test]
+fn a_start_is_an_order_and_its_prefixes() {
+    assert_eq!(start(&[]), HashSet::from([vec![]]));
+    let expected = [vec![], vec![2], vec![2, 0], vec![2, 0, 1]];
+    assert_eq!(start(&[2, 0, 1]), HashSet::from(expected));
+}
+
+#[test]
+fn an_equal_goes_behind_directly_before_and_in_the_stead() {
+    let (a, b, x, y) = (0, 1, 2, 3);
+    let expected = [
+        vec![x, a],
+        vec![x, b, a, y],
+        vec![x, a, b, y],
+        vec![x, a, y, b],
+        vec![x, b, y],
+    ];
+    let equal = Dependency::equal(0, b, a);
+    assert_eq!(steps(&[x, a, y], [&equal]), HashSet::from(expected));
+}
+
+#[test]
+fn a_constant_goes_in_everywhere() {
+    let constant = Dependency::fix(0, &[], 2);
+    let expected = [vec![0], vec![2, 0, 1], vec![0, 2, 1], vec![0, 1, 2]];
+    assert_eq!(steps(&[0, 1], [&constant]), HashSet::from(expected));
+}
+
+#[test]
+fn a_closure_adds_nothing_when_closed_again_and_keeps_what_it_had() {
+    for dependency in all_dependencies(4) {
+        let begun = start(&[3, 0, 1]);
+        let once = closure(begun.clone(), [&dependency]);
+        assert!(begun.is_subset(&once));
+        assert_eq!(closure(once.clone(), [&dependency]), once);
+        for ordering in &once {
+            assert!(steps(ordering, [&dependency]).is_subset(&once));
+        }
+    }
+}
+
+#[test]
+fn a_closure_without_dependencies_has_the_prefixes() {
+    assert_eq!(closure([vec![1, 0]], []), start(&[1, 0]));
+}
+
+#[test]
+fn constants_alone_give_every_ordering() {
+    let constants: Vec<Dependency> = (0..4).map(|c| Dependency::fix(0, &[], c)).collect();
+    let expected: HashSet<Ordering> = all_orderings(4).into_iter().collect();
+    assert_eq!(closure([vec![]], &constants), expected);
+}

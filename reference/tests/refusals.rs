@@ -1,0 +1,480 @@
+//! The refusals of a query and of a build, and the buffers afterwards.
+
+use reference::builder::{build_table, SCRATCH_BYTES};
+use reference::random::Random;
+use reference::samples::{self, Shape, EXAMPLE_QUERY, EXAMPLE_TABLE};
+use reference::{build, listing, Built, Dependency, Query};
+
+/// The number that reading a query refuses it with, or none. The listing must
+/// refuse it with the same number.
+fn refusal(query: &[u8]) -> Option<u8> {
+    let refusal = Query::read(query).err();
+    if let Some(number) = refusal {
+        let line = format!("refused {number}\n");
+        assert_eq!(listing(query), line.as_bytes());
+    }
+    refusal
+}
+
+/// The example with one byte changed.
+fn example_with(place: usize, byte: u8) -> Vec<u8> {
+    let mut query = EXAMPLE_QUERY.to_vec();
+    query[place] = byte;
+    query
+}
+
+/// A query of one produced order or one dependency, its head and bytes given.
+fn one_order(columns: u8, head: u8, fields: [u8; 4]) -> Vec<u8> {
+    let mut query = vec![columns, 1, 0, 0, 0, head];
+    query.extend(fields);
+    query
+}
+
+fn one_dependency(columns: u8, sets: u8, head: u8, fields: [u8; 4]) -> Vec<u8> {
+    let mut query = vec![columns, 1, 0, sets, 1, 0, head, 255, 255, 255, 255];
+    query.extend(fields);
+    query
+}
+
+/// A query at the upper limit of all its sizes.
+fn largest() -> Query {
+    Query {
+        columns: 12,
+        produced: (0..8).map(|column| vec![column]).collect(),
+        tested: (0..8).map(|column| vec![column, 11]).collect(),
+        sets: 8,
+        dependencies: (0..16)
+            .map(|number| Dependency::fix(number % 8, &[], number % 12))
+            .collect(),
+    }
+}
+
+#[test]
+fn fewer_bytes_than_the_sizes_take_give_1() {
+    for length in 0..5 {
+        assert_eq!(refusal(&EXAMPLE_QUERY[..length]), Some(1));
+        assert_eq!(refusal(&vec![255; length]), Some(1));
+    }
+}
+
+#[test]
+fn a_total_other_than_implied_gives_1() {
+    for length in 5..EXAMPLE_QUERY.len() {
+        assert_eq!(refusal(&EXAMPLE_QUERY[..length]), Some(1));
+    }
+    for more in 1..6 {
+        let longer = [&EXAMPLE_QUERY[..], &vec![0; more]].concat();
+        assert_eq!(refusal(&longer), Some(1));
+    }
+    assert_eq!(refusal(&EXAMPLE_QUERY), None);
+}
+
+#[test]
+fn sizes_are_taken_up_to_their_limits() {
+    assert_eq!(refusal(&largest().write()), None);
+    assert_eq!(refusal(&one_order(1, 0, [255; 4])), None);
+}
+
+#[test]
+fn sizes_outside_their_limits_give_2() {
+    for (place, limit) in [12, 8, 8, 8, 16].into_iter().enumerate() {
+        for size in limit + 1..=255 {
+            assert_eq!(refusal(&example_with(place, size)), Some(2));
+        }
+    }
+    assert_eq!(refusal(&example_with(0, 0)), Some(2));
+    assert_eq!(refusal(&example_with(1, 0)), Some(2));
+}
+
+#[test]
+fn sizes_outside_their_limits_give_2_with_the_implied_total_too() {
+    let mut columns = largest();
+    columns.columns = 13;
+    let mut produced = largest();
+    produced.produced.push(vec![]);
+    let mut tested = largest();
+    tested.tested.push(vec![]);
+    let mut sets = largest();
+    sets.sets = 9;
+    let mut dependencies = largest();
+    dependencies.dependencies.push(Dependency::fix(0, &[0], 1));
+    let mut nothing_produced = largest();
+    nothing_produced.produced.clear();
+    for query in [
+        columns,
+        produced,
+        tested,
+        sets,
+        dependencies,
+        nothing_produced,
+    ] {
+        assert_eq!(refusal(&query.write()), Some(2));
+    }
+}
+
+#[test]
+fn an_order_length_above_4_gives_3() {
+    assert_eq!(refusal(&one_order(4, 4, [3, 2, 1, 0])), None);
+    for head in 5..=255 {
+        assert_eq!(refusal(&one_order(4, head, [3, 2, 1, 0])), Some(3));
+    }
+    assert_eq!(refusal(&example_with(7, 5)), Some(3));
+}
+
+#[test]
+fn a_kind_above_4_gives_3() {
+    assert_eq!(refusal(&one_dependency(2, 1, 64, [0, 1, 255, 255])), None);
+    for kind in 5..16 {
+        for used in 0..=4 {
+            let mut fields = [255; 4];
+            fields[..used].copy_from_slice(&[0, 1, 2, 3][..used]);
+            let query = one_dependency(4, 1, 16 * kind, fields);
+            assert_eq!(refusal(&query), Some(3));
+        }
+    }
+}
+
+#[test]
+fn a_set_not_below_s_gives_3() {
+    for sets in 0..=8 {
+        for set in 0..16 {
+            for (kind, fields) in [(0, [0, 255, 255, 255]), (4, [1, 0, 255, 255])] {
+                let query = one_dependency(2, sets, 16 * kind + set, fields);
+                let expected = (set >= sets).then_some(3);
+                assert_eq!(refusal(&query), expected, "set {set} of {sets}");
+            }
+        }
+    }
+}
+
+#[test]
+fn an_unused_byte_other_than_255_gives_3() {
+    for used in 0..4 {
+        let mut fields = [255; 4];
+        for (column, field) in (0..).zip(&mut fields[..used]) {
+            *field = column;
+        }
+        let heads = (used as u8, (16 * used as u8).wrapping_sub(16));
+        for place in used..4 {
+            for byte in [0, 3, 4, 11, 254] {
+                let mut spoilt = fields;
+                spoilt[place] = byte;
+                assert_eq!(refusal(&one_order(4, heads.0, spoilt)), Some(3));
+                if used > 0 {
+                    assert_eq!(refusal(&one_dependency(4, 1, heads.1, spoilt)), Some(3));
+                }
+                if used == 2 {
+                    assert_eq!(refusal(&one_dependency(4, 1, 64, spoilt)), Some(3));
+                }
+            }
+        }
+        assert_eq!(refusal(&one_order(4, heads.0, fields)), None);
+        if used > 0 {
+            assert_eq!(refusal(&one_dependency(4, 1, heads.1, fields)), None);
+        }
+    }
+}
+
+#[test]
+fn a_column_not_below_n_gives_4() {
+    for columns in 4..=12 {
+        for place in 0..4 {
+            for (column, expected) in [(columns - 1, None), (columns, Some(4)), (255, Some(4))] {
+                let mut fields = [0, 1, 2, 3];
+                if column < columns {
+                    fields.swap(place, 3);
+                }
+                fields[place] = column;
+                assert_eq!(refusal(&one_order(columns, 4, fields)), expected);
+                assert_eq!(refusal(&one_dependency(columns, 1, 48, fields)), expected);
+            }
+        }
+    }
+    assert_eq!(refusal(&one_dependency(1, 1, 0, [0, 255, 255, 255])), None);
+    assert_eq!(
+        refusal(&one_dependency(1, 1, 0, [1, 255, 255, 255])),
+        Some(4)
+    );
+    assert_eq!(
+        refusal(&one_dependency(2, 1, 64, [2, 1, 255, 255])),
+        Some(4)
+    );
+    assert_eq!(
+        refusal(&one_dependency(2, 1, 64, [1, 2, 255, 255])),
+        Some(4)
+    );
+}
+
+#[test]
+fn a_column_twice_in_one_item_gives_5() {
+    for first in 0..4 {
+        for second in first + 1..4 {
+            let mut fields = [0, 1, 2, 3];
+            fields[second] = fields[first];
+            assert_eq!(refusal(&one_order(4, 4, fields)), Some(5));
+            assert_eq!(refusal(&one_dependency(4, 1, 48, fields)), Some(5));
+        }
+    }
+    assert_eq!(refusal(&one_order(2, 2, [1, 1, 255, 255])), Some(5));
+    assert_eq!(
+        refusal(&one_dependency(2, 1, 16, [1, 1, 255, 255])),
+        Some(5)
+    );
+    assert_eq!(
+        refusal(&one_dependency(2, 1, 64, [1, 1, 255, 255])),
+        Some(5)
+    );
+}
+
+#[test]
+fn two_equal_interesting_orders_give_6() {
+    let query = |produced: &[&[u8]], tested: &[&[u8]]| Query {
+        columns: 4,
+        produced: produced.iter().map(|order| order.to_vec()).collect(),
+        tested: tested.iter().map(|order| order.to_vec()).collect(),
+        sets: 0,
+        dependencies: vec![],
+    };
+    let refusal_of = |produced, tested| refusal(&query(produced, tested).write());
+    assert_eq!(refusal_of(&[&[0, 1], &[2], &[0, 1]], &[]), Some(6));
+    assert_eq!(refusal_of(&[&[2]], &[&[0, 1], &[1], &[0, 1]]), Some(6));
+    assert_eq!(
+        refusal_of(&[&[2], &[0, 1, 2, 3]], &[&[0, 1, 2, 3]]),
+        Some(6)
+    );
+    assert_eq!(refusal_of(&[&[]], &[&[]]), Some(6));
+    assert_eq!(refusal_of(&[&[0, 1], &[0]], &[&[1, 0], &[]]), None);
+}
+
+#[test]
+fn equal_dependencies_are_not_refused() {
+    let twice = Dependency::fix(0, &[0], 1);
+    let query = Query {
+        columns: 2,
+        produced: vec![vec![0]],
+        tested: vec![],
+        sets: 2,
+        dependencies: vec![twice.clone(), twice, Dependency::fix(1, &[0], 1)],
+    };
+    assert_eq!(refusal(&query.write()), None);
+}
+
+#[test]
+fn the_first_failing_check_gives_the_number() {
+    // Sizes before the total.
+    assert_eq!(refusal(&[0, 1, 0, 0, 0]), Some(2));
+    assert_eq!(refusal(&[13, 2, 2, 2, 2, 9]), Some(2));
+    // The total before the items.
+    assert_eq!(refusal(&one_order(4, 5, [9, 9, 9, 9])[..9]), Some(1));
+    // Within one item all of 3, then all of 4, then 5.
+    assert_eq!(refusal(&one_order(4, 2, [9, 9, 255, 0])), Some(3));
+    assert_eq!(refusal(&one_order(4, 3, [1, 1, 4, 255])), Some(4));
+    assert_eq!(refusal(&one_dependency(4, 1, 80, [9, 9, 0, 0])), Some(3));
+    assert_eq!(
+        refusal(&one_dependency(4, 1, 65, [9, 9, 255, 255])),
+        Some(3)
+    );
+    assert_eq!(refusal(&one_dependency(4, 1, 64, [9, 9, 255, 1])), Some(3));
+    assert_eq!(
+        refusal(&one_dependency(4, 1, 64, [9, 9, 255, 255])),
+        Some(4)
+    );
+    assert_eq!(refusal(&one_dependency(4, 1, 32, [1, 1, 4, 255])), Some(4));
+}
+
+#[test]
+fn an_earlier_item_is_refused_before_a_later_one() {
+    // Items 0 to 5 of the example with, at each, a fault of 3, 4 or 5.
+    let (heads, fields) = (5, 5 + 6);
+    let spoil = |query: &mut Vec<u8>, item: usize, number: u8| match number {
+        3 => query[heads + item] = 255,
+        4 => query[fields + 4 * item] = 3,
+        _ => {
+            query[heads + item] = if item < 4 { 2 } else { 16 };
+            query[fields + 4 * item] = 0;
+            query[fields + 4 * item + 1] = 0;
+        }
+    };
+    for earlier in 0..6 {
+        for later in earlier + 1..6 {
+            for earlier_fault in 3..=5 {
+                for later_fault in 3..=5 {
+                    let mut query = EXAMPLE_QUERY.to_vec();
+                    spoil(&mut query, earlier, earlier_fault);
+                    spoil(&mut query, later, later_fault);
+                    assert_eq!(refusal(&query), Some(earlier_fault));
+                }
+            }
+        }
+    }
+}
+
+#[test]
+fn twins_are_refused_after_all_items() {
+    let mut query = Query::read(&EXAMPLE_QUERY).expect("not refused");
+    query.tested[0] = query.produced[0].clone();
+    assert_eq!(refusal(&query.write()), Some(6));
+    for (dependency, expected) in [
+        (Dependency::equal(2, 0, 1), 3),
+        (Dependency::equal(1, 0, 3), 4),
+        (Dependency::equal(1, 1, 1), 5),
+    ] {
+        query.dependencies[1] = dependency;
+        assert_eq!(refusal(&query.write()), Some(expected));
+    }
+}
+
+/// Builds with a scratch and an output of these lengths, full of marks, and
+/// checks the bytes of both afterwards against the outcome.
+fn build_with(query: &[u8], scratch: usize, output: usize) -> Result<Built, u8> {
+    let marks = |length: usize| (0..length).map(|at| (at % 251) as u8 + 1).collect();
+    let (scratch_before, output_before): (Vec<u8>, Vec<u8>) = (marks(scratch), marks(output));
+    let (mut scratch, mut output) = (scratch_before.clone(), output_before.clone());
+    let built = build(query, &mut scratch, &mut output);
+
+    let read = Query::read(query);
+    let table = match built {
+        Ok(Built { length, .. }) => {
+            let table = build_table(query).expect("not refused");
+            assert_eq!(length, table.len());
+            table
+        }
+        Err(_) => Vec::new(),
+    };
+    assert_eq!(output[..table.len()], table);
+    assert_eq!(output[table.len()..], output_before[table.len()..]);
+
+    let cleared = match read.is_ok() && scratch.len() >= SCRATCH_BYTES {
+        true => SCRATCH_BYTES,
+        false => 0,
+    };
+    assert!(scratch[..cleared].iter().all(|&byte| byte == 0));
+    assert_eq!(scratch[cleared..], scratch_before[cleared..]);
+    built
+}
+
+/// More than 256 nodes, and more than 128 states when nodes are not counted.
+fn too_many_nodes() -> Vec<u8> {
+    let query = Query {
+        columns: 8,
+        produced: vec![vec![]],
+        tested: vec![vec![0, 1, 2], vec![3, 4, 5], vec![6, 7]],
+        sets: 8,
+        dependencies: (0..8).map(|set| Dependency::fix(set, &[], set)).collect(),
+    };
+    query.write()
+}
+
+/// 256 states of few nodes.
+fn too_many_states() -> Vec<u8> {
+    let query = Query {
+        columns: 9,
+        produced: vec![vec![0]],
+        tested: (1..9).map(|column| vec![0, column]).collect(),
+        sets: 8,
+        dependencies: (0..8)
+            .map(|set| Dependency::fix(set, &[0], set + 1))
+            .collect(),
+    };
+    query.write()
+}
+
+#[test]
+fn scratch_below_its_length_gives_9_before_anything_is_constructed() {
+    for query in [&EXAMPLE_QUERY[..], &too_many_nodes(), &too_many_states()] {
+        for scratch in [0, 1, 16_383] {
+            for output in [0, 26, 2048] {
+                assert_eq!(build_with(query, scratch, output), Err(9));
+            }
+        }
+    }
+}
+
+#[test]
+fn nodes_are_refused_before_states_and_states_before_output() {
+    for scratch in [16_384, 16_385, 20_000] {
+        for output in [0, 2048] {
+            assert_eq!(build_with(&too_many_nodes(), scratch, output), Err(7));
+            assert_eq!(build_with(&too_many_states(), scratch, output), Err(8));
+        }
+    }
+}
+
+#[test]
+fn output_shorter_than_the_table_gives_9() {
+    let built = Built {
+        length: 26,
+        nodes: 10,
+        states: 5,
+    };
+    for scratch in [16_384, 16_385, 20_000] {
+        for output in 0..26 {
+            assert_eq!(build_with(&EXAMPLE_QUERY, scratch, output), Err(9));
+        }
+        for output in [26, 27, 2048] {
+            assert_eq!(build_with(&EXAMPLE_QUERY, scratch, output), Ok(built));
+        }
+    }
+    assert_eq!(EXAMPLE_TABLE.len(), 26);
+}
+
+#[test]
+fn a_query_refused_on_reading_leaves_both_buffers() {
+    let twins = Query {
+        columns: 1,
+        produced: vec![vec![0], vec![0]],
+        tested: vec![],
+        sets: 0,
+        dependencies: vec![],
+    };
+    let refused = [
+        (EXAMPLE_QUERY[..4].to_vec(), 1),
+        (example_with(0, 13), 2),
+        (EXAMPLE_QUERY[..34].to_vec(), 1),
+        (one_order(2, 5, [255; 4]), 3),
+        (one_order(2, 1, [2, 255, 255, 255]), 4),
+        (one_order(2, 2, [0, 0, 255, 255]), 5),
+        (twins.write(), 6),
+    ];
+    for (query, number) in refused {
+        for scratch in [0, 16_383, 16_384, 20_000] {
+            for output in [0, 2048] {
+                assert_eq!(build_with(&query, scratch, output), Err(number));
+            }
+        }
+    }
+}
+
+#[test]
+fn random_queries_of_all_sizes_read_back_and_build() {
+    let mut random = Random::new(41);
+    let mut outcomes = [0; 12];
+    for _ in 0..1500 {
+        let query = samples::query(&mut random, Shape::FULL);
+        let bytes = query.write();
+        assert_eq!(Query::read(&bytes), Ok(query));
+        let built = build_with(&bytes, SCRATCH_BYTES, 2048);
+        outcomes[usize::from(built.err().unwrap_or(0))] += 1;
+    }
+    let enough = outcomes[0] > 500 && outcomes[7] > 100 && outcomes[8] > 5;
+    assert!(enough, "{outcomes:?}");
+}
+
+#[test]
+fn spoilt_bytes_are_refused_or_read_as_they_stand() {
+    let mut random = Random::new(42);
+    for _ in 0..20_000 {
+        let mut bytes = samples::query(&mut random, Shape::SMALL).write();
+        for _ in 0..random.between(1, 3) {
+            let place = random.below(bytes.len());
+            bytes[place] = match random.below(3) {
+                0 => random.below(6) as u8,
+                1 => 255,
+                _ => random.below(256) as u8,
+            };
+        }
+        if let Ok(query) = Query::read(&bytes) {
+            assert_eq!(query.write(), bytes);
+        }
+    }
+}

@@ -1,0 +1,276 @@
+//! The table check and the lookups, on good tables and on damaged ones.
+
+use reference::builder::build_table;
+use reference::samples::EXAMPLE_TABLE;
+use reference::table::{ask, check, enter, follow, row, take};
+use reference::{Dependency, Query};
+
+const STARTS: std::ops::Range<usize> = 4..6;
+const SUCCESSORS: std::ops::Range<usize> = 6..16;
+const STATES: u8 = 5;
+
+/// The example's table with one byte changed.
+fn table_with(place: usize, byte: u8) -> [u8; 26] {
+    let mut table = EXAMPLE_TABLE;
+    table[place] = byte;
+    table
+}
+
+/// The number every lookup and the check refuse a table with before anything
+/// else, or none.
+fn form_refusal(table: &[u8]) -> Option<u8> {
+    let refusals = [
+        enter(table, 255).err(),
+        take(table, 255, 255).err(),
+        ask(table, 255, 255).err(),
+        row(table, 255).err(),
+    ];
+    let form = refusals[0].filter(|&number| number != 10);
+    assert!(refusals.iter().all(|&refusal| refusal == refusals[0]));
+    match form {
+        Some(number) => assert_eq!(check(table), Err(number)),
+        None => assert!(matches!(check(table), Ok(()) | Err(11))),
+    }
+    form
+}
+
+#[test]
+fn the_example_table_passes_and_answers() {
+    assert_eq!(check(&EXAMPLE_TABLE), Ok(()));
+    assert_eq!(enter(&EXAMPLE_TABLE, 0), Ok(0));
+    assert_eq!(enter(&EXAMPLE_TABLE, 1), Ok(1));
+    let rows = [[2, 0], [1, 3], [2, 4], [3, 3], [4, 4]];
+    let held = [1, 2, 5, 10, 5];
+    for state in 0..STATES {
+        let successors = rows[usize::from(state)];
+        assert_eq!(row(&EXAMPLE_TABLE, state), Ok(&successors[..]));
+        assert_eq!(take(&EXAMPLE_TABLE, state, 0), Ok(successors[0]));
+        assert_eq!(take(&EXAMPLE_TABLE, state, 1), Ok(successors[1]));
+        for order in 0..4 {
+            let bit = held[usize::from(state)] >> order & 1 == 1;
+            assert_eq!(ask(&EXAMPLE_TABLE, state, order), Ok(bit));
+        }
+    }
+    assert_eq!(follow(&EXAMPLE_TABLE, 0, &[0, 1, 0]), Ok(4));
+}
+
+#[test]
+fn a_row_is_that_part_of_the_lent_table() {
+    for state in 0..STATES {
+        let row = row(&EXAMPLE_TABLE, state).expect("granted");
+        let place = 6 + 2 * usize::from(state);
+        assert!(std::ptr::eq(row, &EXAMPLE_TABLE[place..place + 2]));
+    }
+}
+
+#[test]
+fn fewer_bytes_than_the_sizes_take_give_1() {
+    for length in 0..4 {
+        assert_eq!(form_refusal(&EXAMPLE_TABLE[..length]), Some(1));
+        assert_eq!(form_refusal(&vec![255; length]), Some(1));
+    }
+}
+
+#[test]
+fn a_total_other_than_implied_gives_1() {
+    for length in 4..26 {
+        assert_eq!(form_refusal(&EXAMPLE_TABLE[..length]), Some(1));
+    }
+    let longer = [&EXAMPLE_TABLE[..], &[0]].concat();
+    assert_eq!(form_refusal(&longer), Some(1));
+    assert_eq!(form_refusal(&EXAMPLE_TABLE), None);
+}
+
+#[test]
+fn sizes_outside_their_limits_give_2_before_the_total() {
+    for (place, limit) in [128, 8, 8, 8].into_iter().enumerate() {
+        for size in limit + 1..=255 {
+            assert_eq!(form_refusal(&table_with(place, size)), Some(2));
+            assert_eq!(form_refusal(&table_with(place, size)[..4]), Some(2));
+        }
+    }
+    assert_eq!(form_refusal(&table_with(0, 0)), Some(2));
+    assert_eq!(form_refusal(&table_with(1, 0)), Some(2));
+}
+
+#[test]
+fn sizes_are_taken_up_to_their_limits() {
+    for (states, produced, tested, sets) in [(128, 8, 8, 8), (1, 1, 0, 0)] {
+        let total = 4 + produced + states * sets + 2 * states;
+        let mut table = vec![0; total];
+        let sizes = [states, produced, tested, sets].map(|size| size as u8);
+        table[..4].copy_from_slice(&sizes);
+        assert_eq!(form_refusal(&table), None);
+        assert_eq!(check(&table), Ok(()));
+    }
+}
+
+/// The bits of a byte of the example's held bits that are past P+T.
+fn past_interesting(place: usize) -> u8 {
+    match place % 2 {
+        0 => 0xf0,
+        _ => 0xff,
+    }
+}
+
+/// What the check gives for the example's table with one byte changed.
+fn expected_check(place: usize, byte: u8) -> Result<(), u8> {
+    let unchanged = EXAMPLE_TABLE[place] == byte;
+    match place {
+        0 if byte == 0 || byte > 128 => Err(2),
+        1 if byte == 0 || byte > 8 => Err(2),
+        2 | 3 if byte > 8 => Err(2),
+        0 | 1 | 3 if !unchanged => Err(1),
+        // With fewer tested orders the bits of the others are past P+T.
+        2 if byte < 2 => Err(11),
+        4..16 if byte >= STATES => Err(11),
+        16.. if byte & past_interesting(place) != 0 => Err(11),
+        _ => Ok(()),
+    }
+}
+
+#[test]
+fn the_check_of_a_table_with_one_byte_changed() {
+    for place in 0..26 {
+        for byte in 0..=255 {
+            let table = table_with(place, byte);
+            assert_eq!(check(&table), expected_check(place, byte));
+        }
+    }
+}
+
+#[test]
+fn held_bits_may_be_as_many_as_interesting_orders() {
+    for produced in 1..=8 {
+        for tested in 0..=8 {
+            for bit in 0..16 {
+                let mut table = vec![1, produced, tested, 0];
+                table.extend(vec![0; usize::from(produced)]);
+                table.extend((1u16 << bit).to_le_bytes());
+                let expected = match bit < produced + tested {
+                    true => Ok(()),
+                    false => Err(11),
+                };
+                assert_eq!(check(&table), expected);
+                for order in 0..produced + tested {
+                    assert_eq!(ask(&table, 0, order), Ok(order == bit));
+                }
+                assert_eq!(ask(&table, 0, produced + tested), Err(10));
+            }
+        }
+    }
+}
+
+#[test]
+fn handles_not_in_the_table_give_10() {
+    for handle in 0..=255 {
+        let expected = |count: u8| (handle >= count).then_some(10);
+        assert_eq!(enter(&EXAMPLE_TABLE, handle).err(), expected(2));
+        assert_eq!(take(&EXAMPLE_TABLE, handle, 0).err(), expected(STATES));
+        assert_eq!(take(&EXAMPLE_TABLE, 0, handle).err(), expected(2));
+        assert_eq!(ask(&EXAMPLE_TABLE, handle, 0).err(), expected(STATES));
+        assert_eq!(ask(&EXAMPLE_TABLE, 0, handle).err(), expected(4));
+        assert_eq!(row(&EXAMPLE_TABLE, handle).err(), expected(STATES));
+    }
+}
+
+#[test]
+fn a_table_without_sets_has_empty_rows_and_no_takes() {
+    let table = [1, 1, 0, 0, 0, 1, 0];
+    assert_eq!(check(&table), Ok(()));
+    assert_eq!(row(&table, 0), Ok(&[][..]));
+    assert_eq!(row(&table, 1), Err(10));
+    assert_eq!(take(&table, 0, 0), Err(10));
+}
+
+#[test]
+fn an_entry_gives_11_for_the_start_it_reads_alone() {
+    for place in STARTS {
+        for byte in STATES..=255 {
+            let table = table_with(place, byte);
+            for produced in 0..2 {
+                let expected = match 4 + usize::from(produced) == place {
+                    true => Err(11),
+                    false => enter(&EXAMPLE_TABLE, produced),
+                };
+                assert_eq!(enter(&table, produced), expected);
+            }
+            assert_eq!(enter(&table, 2), Err(10));
+            for state in 0..STATES {
+                assert_eq!(take(&table, state, 1), take(&EXAMPLE_TABLE, state, 1));
+                assert_eq!(ask(&table, state, 2), ask(&EXAMPLE_TABLE, state, 2));
+                assert_eq!(row(&table, state), row(&EXAMPLE_TABLE, state));
+            }
+        }
+    }
+}
+
+#[test]
+fn a_take_gives_11_for_the_successor_it_reads_alone() {
+    for place in SUCCESSORS {
+        for byte in STATES..=255 {
+            let table = table_with(place, byte);
+            for state in 0..STATES {
+                for set in 0..2 {
+                    let read = 6 + 2 * usize::from(state) + usize::from(set);
+                    let expected = match read == place {
+                        true => Err(11),
+                        false => take(&EXAMPLE_TABLE, state, set),
+                    };
+                    assert_eq!(take(&table, state, set), expected);
+                }
+                assert_eq!(take(&table, state, 2), Err(10));
+                assert_eq!(ask(&table, state, 0), ask(&EXAMPLE_TABLE, state, 0));
+                let from = 6 + 2 * usize::from(state);
+                assert_eq!(row(&table, state), Ok(&table[from..from + 2]));
+            }
+            assert_eq!(enter(&table, 1), Ok(1));
+        }
+    }
+}
+
+#[test]
+fn bits_past_the_interesting_orders_are_no_matter_to_lookups() {
+    let mut table = EXAMPLE_TABLE;
+    for (place, byte) in table.iter_mut().enumerate().skip(16) {
+        *byte |= past_interesting(place);
+    }
+    assert_eq!(check(&table), Err(11));
+    for state in 0..STATES {
+        for order in 0..4 {
+            assert_eq!(ask(&table, state, order), ask(&EXAMPLE_TABLE, state, order));
+        }
+        assert_eq!(ask(&table, state, 4), Err(10));
+        assert_eq!(row(&table, state), row(&EXAMPLE_TABLE, state));
+        assert_eq!(take(&table, state, 0), take(&EXAMPLE_TABLE, state, 0));
+    }
+}
+
+#[test]
+fn all_sixteen_held_bits_are_used() {
+    let query = Query {
+        columns: 4,
+        produced: (0..4)
+            .flat_map(|one| [vec![one], vec![one, (one + 1) % 4]])
+            .collect(),
+        tested: (0..4)
+            .flat_map(|one| [vec![one, (one + 2) % 4], vec![one, (one + 3) % 4]])
+            .collect(),
+        sets: 1,
+        dependencies: (0..4).map(|c| Dependency::fix(0, &[], c)).collect(),
+    };
+    let table = build_table(&query.write()).expect("not refused");
+    assert_eq!(check(&table), Ok(()));
+    for produced in 0..8 {
+        let state = follow(&table, produced, &[0]).expect("granted");
+        for order in 0..16 {
+            assert_eq!(ask(&table, state, order), Ok(true));
+        }
+        assert_eq!(ask(&table, state, 16), Err(10));
+    }
+    let state = enter(&table, 7).expect("granted");
+    let held: Vec<u8> = (0..16)
+        .filter(|&order| ask(&table, state, order) == Ok(true))
+        .collect();
+    assert_eq!(held, [6, 7]);
+}
