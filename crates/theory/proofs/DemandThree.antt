@@ -72,10 +72,10 @@ module _ {query t : Bytes} {n : ℕ} (b : Built query t n) where
   built-fits =
       let sizes = query-sizes query (b .checked) in
       record {
-        some-produced = subst (λ k. 1 ≤ k) (sym (produced-count query)) (sizes .produced .0);
-        few-produced = subst (λ k. k ≤ 8) (sym (produced-count query)) (sizes .produced .1);
-        few-tested = subst (λ k. k ≤ 8) (sym (tested-count query)) (sizes .tested);
-        few-sets = subst (λ k. k ≤ 8) (sym (set-count query)) (sizes .sets);
+        some-produced = subst (λ k. 1 ≤ k) (sym (produced-count query)) (sizes .some-produced);
+        few-produced = subst (λ k. k ≤ 8) (sym (produced-count query)) (sizes .few-produced);
+        few-tested = subst (λ k. k ≤ 8) (sym (tested-count query)) (sizes .few-tested);
+        few-sets = subst (λ k. k ≤ 8) (sym (set-count query)) (sizes .few-sets);
         few-nodes = b .few-nodes;
         few-states = b .few-states;
       }

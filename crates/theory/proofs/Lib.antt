@@ -10,6 +10,8 @@ pub mod NodeLaws
 pub mod StateLaws
 pub mod RepeatLaws
 pub mod BuildLaws
+pub mod Picks
+pub mod RefusalLaws
 pub mod QueryLaws
 pub mod RowLaws
 pub mod TableLaws

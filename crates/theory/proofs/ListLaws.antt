@@ -1,5 +1,5 @@
 -- Facts about lists as sets: membership under take and drop, and the pigeonhole.
-use Prim.Native.Nat.{ℕ, zero, suc, _+_, _≤_, _<_, zero-le}
+use Prim.Native.Nat.{ℕ, zero, suc, _+_, _≤_, _<_, zero-le, suc-le-suc}
 use native.Mathlib.Nat.{le-of-suc-le-suc, not-suc-le-zero, eq-or-lt-of-le}
 use native.Mathlib.Omega.{arith}
 use mathlib.Core.Path.{_≡_, refl, sym, _∙_, ap, subst}
@@ -22,6 +22,11 @@ module _ {A : Type 0} where
   member-getD [] i d h = absurd (not-suc-le-zero h)
   member-getD (x ∷ xs) zero d h = List·Memᴰ·head refl
   member-getD (x ∷ xs) (suc i) d h = List·Memᴰ·tail (member-getD xs i d (le-of-suc-le-suc h))
+
+  -- an element stands at some number
+  pub getD-member : {x : A} {l : List A} (d : A) → List·Memᴰ x l → (i : ℕ) × (i < length l) × (getD l i d ≡ x)
+  getD-member d (List·Memᴰ·head e) = (zero, suc-le-suc zero-le, sym e)
+  getD-member d (List·Memᴰ·tail m) = let t = getD-member d m in (suc (t .0), suc-le-suc (t .1), t .2)
 
   distinct-rest : {x : A} {xs : List A} → Distinct (x ∷ xs) → (¬ List·Memᴰ x xs) × Distinct xs
   distinct-rest (also n d) = (n, d)

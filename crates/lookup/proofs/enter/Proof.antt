@@ -1,0 +1,25 @@
+-- `lookup::enter` meets its contract: a refused form refuses, and a form that passes is what the rest requires.
+use native.Mathlib.Omega.{arith}
+use mathlib.Core.Path.{sym, _∙_}
+use borrow.Author.Needs.{needs}
+use Rattle.theory.specs.Table.{enter}
+use Rattle.table.proofs.FormLaws.{formed}
+use Rattle.lookup.proofs.LookupLaws.{form-refuses}
+use Rattle.lookup.proofs.enter.Statement.{statement}
+use Rattle.lookup.proofs.enter.Tie as tie
+
+form-requires : tie.Need-form-requires
+form-requires c κs = search needs
+
+returns : tie.Need-returns
+unfolding enter
+returns c = (form-refuses _ _ (c .before .form .ensures) (c .if1 .taken), omega arith)
+
+enter-formed-requires : tie.Need-enter-formed-requires
+enter-formed-requires c κs = formed _ (sym (c .before .form .ensures) ∙ c .if1 .left)
+
+returns-2 : tie.Need-returns-2
+returns-2 c = search needs
+
+pub enter-spec : {M : Type 1} → statement M
+enter-spec = tie.close (tie.spec form-requires returns enter-formed-requires returns-2)

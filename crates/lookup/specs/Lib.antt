@@ -1,0 +1,2 @@
+-- The answers of the lookups, in document 01's numbers.
+pub mod Answers

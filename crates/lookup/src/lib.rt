@@ -1,0 +1,170 @@
+// Lookups in a table's bytes, whatever they are: each answers in constant time or refuses, and knows nothing of the query.
+ghost use mathlib.Core.Path.{_≡_};
+ghost use Prim.Native.Nat.{_<_};
+ghost use Rattle.theory.specs.Table.{statesIn, heldBit, grant, grantState, enter, takeIn, ask, row, rowRefusal};
+ghost use Rattle.table.specs.Form.{Formed};
+ghost use Rattle.lookup.specs.Answers.{answerOf, heldOf, Listed, ListedAsk};
+use table::OrderHandle;
+use table::SetHandle;
+use table::StateNumber;
+
+// What a plan node carries: one state number.
+pub struct Mark {
+    pub state: StateNumber,
+}
+
+// Where an entry or a take leads.
+pub enum Moved {
+    To(Mark),
+    Refused(u8),
+}
+
+// Whether an interesting order is held.
+pub enum Asked {
+    Held,
+    NotHeld,
+    Refused(u8),
+}
+
+// A state that was read from the table: 11 where it is not below Q.
+fn granted(table: &[u8], state: u8) -> Moved
+    ensures { λ r. ⌜ answerOf r ≡ grantState (now (table .entry)) state ⌝ }
+    ensures { λ r. ⌜ Listed r ⌝ }
+{
+    if (state as usize) < table::states(table) {
+        Moved::To(Mark {
+            state: StateNumber(state),
+        })
+    } else {
+        Moved::Refused(table::ROW_REFUSED)
+    }
+}
+
+// An entry, once the form has passed: 10, then 11.
+fn enter_formed(table: &[u8], order: OrderHandle) -> Moved
+    requires { ⌜ Formed (now table) ⌝ }
+    ensures { λ r. ⌜ answerOf r ≡ enter (now (table .entry)) (order .0) ⌝ }
+    ensures { λ r. ⌜ Listed r ⌝ }
+{
+    let p = order.0 as usize;
+    if p < table::produced(table) {
+        granted(table, table[4 + p])
+    } else {
+        Moved::Refused(table::HANDLE_REFUSED)
+    }
+}
+
+// Enter by a produced order: 1, 2, 1, then 10, then 11.
+pub fn enter(table: &[u8], order: OrderHandle) -> Moved
+    ensures { λ r. ⌜ answerOf r ≡ enter (now (table .entry)) (order .0) ⌝ }
+    ensures { λ r. ⌜ Listed r ⌝ }
+{
+    let refusal = table::form(table);
+    if refusal != table::PASSED {
+        return Moved::Refused(refusal);
+    }
+    enter_formed(table, order)
+}
+
+// A take, once the form has passed: 10, then 11.
+fn take_formed(table: &[u8], state: StateNumber, set: SetHandle) -> Moved
+    requires { ⌜ Formed (now table) ⌝ }
+    ensures { λ r. ⌜ answerOf r ≡ takeIn (now (table .entry)) (state .0) (set .0) ⌝ }
+    ensures { λ r. ⌜ Listed r ⌝ }
+{
+    let q = state.0 as usize;
+    let s = set.0 as usize;
+    if table::states(table) <= q {
+        return Moved::Refused(table::HANDLE_REFUSED);
+    }
+    if table::sets(table) <= s {
+        return Moved::Refused(table::HANDLE_REFUSED);
+    }
+    let row = table::successors(table, q);
+    granted(table, row[s])
+}
+
+// The held bit of an interesting order in a state.
+fn held(table: &[u8], state: usize, i: usize) -> Asked
+    requires { ⌜ Formed (now table) × (state < statesIn (now table)) × (i < 16) ⌝ }
+    ensures { λ r. ⌜ heldOf r ≡ grant (heldBit (now (table .entry)) state i) ⌝ }
+    ensures { λ r. ⌜ ListedAsk r ⌝ }
+{
+    let bytes = table::held(table, state);
+    if (bytes[i / 8] >> (i % 8)) % 2 == 1 {
+        Asked::Held
+    } else {
+        Asked::NotHeld
+    }
+}
+
+// An ask, once the form has passed: 10.
+fn ask_formed(table: &[u8], state: StateNumber, order: OrderHandle) -> Asked
+    requires { ⌜ Formed (now table) ⌝ }
+    ensures { λ r. ⌜ heldOf r ≡ ask (now (table .entry)) (state .0) (order .0) ⌝ }
+    ensures { λ r. ⌜ ListedAsk r ⌝ }
+{
+    let q = state.0 as usize;
+    let i = order.0 as usize;
+    if table::states(table) <= q {
+        return Asked::Refused(table::HANDLE_REFUSED);
+    }
+    if table::produced(table) + table::tested(table) <= i {
+        return Asked::Refused(table::HANDLE_REFUSED);
+    }
+    held(table, q, i)
+}
+
+// Both lookups of a plan node are methods of its mark, by value, so that no caller takes the state number out.
+impl Mark {
+    // Take a set: 1, 2, 1, then 10, then 11.
+    pub fn take(self, table: &[u8], set: SetHandle) -> Moved
+        ensures { λ r. ⌜ answerOf r ≡ takeIn (now (table .entry)) (self .state .0) (set .0) ⌝ }
+        ensures { λ r. ⌜ Listed r ⌝ }
+    {
+        let refusal = table::form(table);
+        if refusal != table::PASSED {
+            return Moved::Refused(refusal);
+        }
+        take_formed(table, self.state, set)
+    }
+
+    // Ask whether an interesting order is held: 1, 2, 1, then 10.
+    pub fn ask(self, table: &[u8], order: OrderHandle) -> Asked
+        ensures { λ r. ⌜ heldOf r ≡ ask (now (table .entry)) (self .state .0) (order .0) ⌝ }
+        ensures { λ r. ⌜ ListedAsk r ⌝ }
+    {
+        let refusal = table::form(table);
+        if refusal != table::PASSED {
+            return Asked::Refused(refusal);
+        }
+        ask_formed(table, self.state, order)
+    }
+}
+
+// The refusal of a row: 1, 2, 1, then 10.
+fn row_refusal(table: &[u8], state: StateNumber) -> u8
+    ensures { λ r. ⌜ r ≡ rowRefusal (now (table .entry)) (state .0) ⌝ }
+{
+    let refusal = table::form(table);
+    if refusal != table::PASSED {
+        return refusal;
+    }
+    if (state.0 as usize) < table::states(table) {
+        table::PASSED
+    } else {
+        table::HANDLE_REFUSED
+    }
+}
+
+// Hand back a state's successor row, as it is in the lent table; an empty part on refusal, whose number is written, 0 for none.
+pub fn row_of<'a, 'b>(table: &'a [u8], state: StateNumber, refusal: &'b mut u8) -> &'a [u8]
+    ensures { λ r. ⌜ (now r ≡ row (now (table .entry)) (state .0)) × (now (refusal .exit) ≡ rowRefusal (now (table .entry)) (state .0)) ⌝ }
+{
+    let refused = row_refusal(table, state);
+    *refusal = refused;
+    if refused != table::PASSED {
+        return &table[..0];
+    }
+    table::successors(table, state.0 as usize)
+}

@@ -1,0 +1,24 @@
+use mathlib.Core.Path.{_∙_, ap}
+use Rattle.order_tables.specs.Codes.{answerCode}
+use borrow.Author.Needs.{needs}
+use Rattle.order_tables.proofs.order_table_ask.Statement.{statement}
+use Rattle.order_tables.proofs.order_table_ask.Tie as tie
+use Rattle.order_tables.proofs.order_table_ask.Reads as reads
+use Rattle.order_tables.proofs.order_table_ask.Lts as lts
+use Rattle.lookup.proofs.Mark.ask.Reads as ask-reads
+use Rattle.order_tables.proofs.asked.Reads as asked-reads
+
+-- src/lib.rt:78:11
+ask-requires : tie.Need-ask-requires
+ask-requires c κs = search needs
+
+-- src/lib.rt:78:5
+asked-requires : tie.Need-asked-requires
+asked-requires c κs = search needs
+
+-- src/lib.rt:71:1
+returns : tie.Need-returns
+returns c = c .asked .ensures ∙ ap answerCode (c .before .ask .ensures .0)
+
+pub order-table-ask-spec : {M : Type 1} → statement M
+order-table-ask-spec = tie.close (tie.spec ask-requires asked-requires returns)

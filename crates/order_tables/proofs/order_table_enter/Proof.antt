@@ -1,0 +1,24 @@
+use mathlib.Core.Path.{_∙_, ap}
+use Rattle.order_tables.specs.Codes.{answerCode}
+use borrow.Author.Needs.{needs}
+use Rattle.order_tables.proofs.order_table_enter.Statement.{statement}
+use Rattle.order_tables.proofs.order_table_enter.Tie as tie
+use Rattle.order_tables.proofs.order_table_enter.Reads as reads
+use Rattle.order_tables.proofs.order_table_enter.Lts as lts
+use Rattle.lookup.proofs.enter.Reads as enter-reads
+use Rattle.order_tables.proofs.moved.Reads as moved-reads
+
+-- src/lib.rt:56:11
+enter-requires : tie.Need-enter-requires
+enter-requires c κs = search needs
+
+-- src/lib.rt:56:5
+moved-requires : tie.Need-moved-requires
+moved-requires c κs = search needs
+
+-- src/lib.rt:52:1
+returns : tie.Need-returns
+returns c = c .moved .ensures ∙ ap answerCode (c .before .enter .ensures .0)
+
+pub order-table-enter-spec : {M : Type 1} → statement M
+order-table-enter-spec = tie.close (tie.spec enter-requires moved-requires returns)

@@ -1,0 +1,43 @@
+-- The numbers that the exported functions return.
+use Prim.Native.Nat.{ℕ, _+_, _*_}
+use mathlib.Core.List.{List, [], _∷_, _++_}
+use lib.Dec.{eqb}
+use lib.ListN.{length, getD}
+use Rattle.theory.specs.Tests.{pick}
+use Rattle.theory.specs.Orders.{Order, Rule, fix, equal, Dependency}
+use Rattle.theory.specs.Refusals.{passed}
+use Rattle.theory.specs.Query.{Bytes}
+use Rattle.theory.specs.Table.{Answer, setsIn, successorsBase, rowRefusal}
+
+-- A refusal's number times 65,536.
+abbrev pub refusedCode : ℕ → ℕ
+refusedCode n = n * 65536
+
+-- A lookup's answer: the refusal's number times 65,536 plus the value, which is 0 on refusal.
+abbrev pub answerCode : Answer → ℕ
+answerCode a = a .refusal * 65536 + a .value
+
+-- A row's answer: its offset in the table, or the refusal.
+unfoldable pub rowCode : Bytes → ℕ → ℕ
+rowCode t state = pick (eqb (rowRefusal t state) passed) (successorsBase t + state * setsIn t) (refusedCode (rowRefusal t state))
+
+-- Four columns, a byte each, the first lowest, 0 where there is none.
+abbrev pub columnsCode : List ℕ → ℕ
+columnsCode l = getD l 0 0 + 256 * getD l 1 0 + 65536 * getD l 2 0 + 16777216 * getD l 3 0
+
+-- An order: its length, then its columns.
+unfoldable pub orderCode : Order → ℕ
+orderCode o = length o + 256 * columnsCode o
+
+-- A rule's kind, and its columns: of a fix the left ones, then the right one.
+abbrev pub kindCode : Rule → ℕ
+kindCode (fix l r) = length l
+kindCode (equal a b) = 4
+
+abbrev pub ruleColumns : Rule → List ℕ
+ruleColumns (fix l r) = l ++ (r ∷ [])
+ruleColumns (equal a b) = a ∷ b ∷ []
+
+-- A dependency: its set, its kind, then its columns.
+unfoldable pub dependencyCode : Dependency → ℕ
+dependencyCode d = d .set + 256 * kindCode (d .rule) + 65536 * columnsCode (ruleColumns (d .rule))

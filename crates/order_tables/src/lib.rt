@@ -1,0 +1,127 @@
+// The functions for C and Rust. A table lookup returns its refusal's number times 65,536 plus a value, which is 0 on refusal.
+use lookup::Asked;
+use lookup::Mark;
+use lookup::Moved;
+use orders::Order;
+use table::OrderHandle;
+use table::SetHandle;
+use table::StateNumber;
+
+ghost use mathlib.Core.Path.{_≡_};
+ghost use Prim.Native.Nat.{_+_, _*_, _<_};
+ghost use Rattle.theory.specs.Query.{queryRefusal, orderAt};
+ghost use Rattle.theory.specs.Table.{tableRefusal, enter, takeIn, ask};
+ghost use Rattle.orders.specs.Orders.{orderOf};
+ghost use Rattle.lookup.specs.Answers.{answerOf, heldOf};
+ghost use Rattle.order_tables.specs.Codes.{refusedCode, answerCode, rowCode, columnsCode, orderCode};
+
+fn refused(n: u8) -> u32
+    ensures { λ r. ⌜ r ≡ refusedCode n ⌝ }
+{
+    n as u32 * 65536
+}
+
+fn moved(answer: Moved) -> u32
+    ensures { λ r. ⌜ r ≡ answerCode (answerOf answer) ⌝ }
+{
+    match answer {
+        Moved::To(mark) => mark.state.0 as u32,
+        Moved::Refused(n) => refused(n),
+    }
+}
+
+fn asked(answer: Asked) -> u32
+    ensures { λ r. ⌜ r ≡ answerCode (heldOf answer) ⌝ }
+{
+    match answer {
+        Asked::Held => 1,
+        Asked::NotHeld => 0,
+        Asked::Refused(n) => refused(n),
+    }
+}
+
+// The table check.
+#[no_mangle]
+pub extern "C" fn order_table_check(table: &[u8]) -> u32
+    ensures { λ r. ⌜ r ≡ refusedCode (tableRefusal (now (table .entry))) ⌝ }
+{
+    refused(table::check(table))
+}
+
+// Enter by a produced order: the state.
+#[no_mangle]
+pub extern "C" fn order_table_enter(table: &[u8], produced: u8) -> u32
+    ensures { λ r. ⌜ r ≡ answerCode (enter (now (table .entry)) produced) ⌝ }
+{
+    moved(lookup::enter(table, OrderHandle(produced)))
+}
+
+// Take a set in a state: the next state.
+#[no_mangle]
+pub extern "C" fn order_table_take(table: &[u8], state: u8, set: u8) -> u32
+    ensures { λ r. ⌜ r ≡ answerCode (takeIn (now (table .entry)) state set) ⌝ }
+{
+    let mark = Mark {
+        state: StateNumber(state),
+    };
+    moved(mark.take(table, SetHandle(set)))
+}
+
+// Ask whether an interesting order is held in a state: 1 held, 0 not held.
+#[no_mangle]
+pub extern "C" fn order_table_ask(table: &[u8], state: u8, order: u8) -> u32
+    ensures { λ r. ⌜ r ≡ answerCode (ask (now (table .entry)) state order) ⌝ }
+{
+    let mark = Mark {
+        state: StateNumber(state),
+    };
+    asked(mark.ask(table, OrderHandle(order)))
+}
+
+// Where a state's row begins, from sizes that are bytes.
+fn offset(produced: usize, state: usize, sets: usize) -> u32
+    requires { ⌜ (produced < 256) × (state < 256) × (sets < 256) ⌝ }
+    ensures { λ r. ⌜ r ≡ 4 + produced + state * sets ⌝ }
+{
+    (4 + produced + state * sets) as u32
+}
+
+// A state's successor row: its offset in the table.
+#[no_mangle]
+pub extern "C" fn order_table_row(table: &[u8], state: u8) -> u32
+    ensures { λ r. ⌜ r ≡ rowCode (now (table .entry)) state ⌝ }
+{
+    let mut refusal: u8 = 0;
+    lookup::row_of(table, StateNumber(state), &mut refusal);
+    if refusal != table::PASSED {
+        return refused(refusal);
+    }
+    offset(table::produced(table), state as usize, table::sets(table))
+}
+
+// The query's own checks.
+#[no_mangle]
+pub extern "C" fn order_query_check(query: &[u8]) -> u32
+    ensures { λ r. ⌜ r ≡ refusedCode (queryRefusal (now (query .entry))) ⌝ }
+{
+    refused(query::check(query))
+}
+
+// The columns of an order, a byte each.
+fn columns(o: Order) -> u64
+    ensures { λ r. ⌜ (r ≡ columnsCode (orderOf o)) × (r < 4294967296) ⌝ }
+{
+    orders::column(o, 0) as u64
+        + 256 * (orders::column(o, 1) as u64)
+        + 65536 * (orders::column(o, 2) as u64)
+        + 16777216 * (orders::column(o, 3) as u64)
+}
+
+// Item i of a query, an order: its length, then its columns, a byte each.
+#[no_mangle]
+pub extern "C" fn order_query_order(query: &[u8], i: u8) -> u64
+    ensures { λ r. ⌜ r ≡ orderCode (orderAt (now (query .entry)) i) ⌝ }
+{
+    let o = query::order(query, i);
+    orders::length(o) as u64 + 256 * columns(o)
+}

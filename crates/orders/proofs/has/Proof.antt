@@ -1,0 +1,18 @@
+-- `orders::has` meets its contract: c occurs where its place is in the order.
+use borrow.Author.Needs.{needs}
+use Rattle.orders.specs.Orders.{orderOf}
+use Rattle.orders.proofs.RunLaws.{position-member}
+use Rattle.orders.proofs.has.Statement.{statement}
+use Rattle.orders.proofs.has.Tie as tie
+
+position-requires : tie.Need-position-requires
+position-requires c κs = search needs
+
+length-requires : tie.Need-length-requires
+length-requires c κs = search needs
+
+returns : tie.Need-returns
+returns c = let a = c .before .before .args in rw (c .before .position .ensures, c .length .ensures .0) (position-member (a .c) (orderOf (a .o)))
+
+pub has-spec : {M : Type 1} → statement M
+has-spec = tie.close (tie.spec position-requires length-requires returns)

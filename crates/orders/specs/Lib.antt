@@ -1,0 +1,2 @@
+-- What orders and dependencies by value stand for.
+pub mod Orders

@@ -1,0 +1,67 @@
+// Reading a query's bytes: the counts, the heads and the four bytes of each item. Items are counted from 0, the orders first.
+use orders::Order;
+ghost use mathlib.Core.Path.{_≡_};
+ghost use Prim.Native.Nat.{_-_, _≤_, min};
+ghost use Rattle.theory.specs.Query.{byteAt, orderCount, itemCount, headAt, bodyAt, orderAt};
+ghost use Rattle.orders.specs.Orders.{OrderIs};
+
+// Byte i; 0 past the end.
+pub fn byte(query: &[u8], i: usize) -> u8
+    ensures { λ r. ⌜ r ≡ byteAt (now (query .entry)) i ⌝ }
+{
+    if i < query.len() { query[i] } else { 0 }
+}
+
+// The number of interesting orders, P + T.
+pub fn order_count(query: &[u8]) -> u16
+    ensures { λ r. ⌜ (r ≡ orderCount (now (query .entry))) × (r ≤ 510) ⌝ }
+{
+    byte(query, 1) as u16 + byte(query, 2) as u16
+}
+
+// The number of items, P + T + D.
+pub fn item_count(query: &[u8]) -> u16
+    ensures { λ r. ⌜ (r ≡ itemCount (now (query .entry))) × (r ≤ 765) ⌝ }
+{
+    order_count(query) + byte(query, 4) as u16
+}
+
+// The head of item i.
+pub fn head(query: &[u8], i: u16) -> u8
+    ensures { λ r. ⌜ r ≡ headAt (now (query .entry)) i ⌝ }
+{
+    byte(query, 5 + i as usize)
+}
+
+// How many of the four bytes from `at` on are there.
+fn there(len: usize, at: usize) -> usize
+    ensures { λ r. ⌜ r ≡ min 4 (len - at) ⌝ }
+{
+    if len <= at {
+        return 0;
+    }
+    if len - at < 4 { len - at } else { 4 }
+}
+
+// The four bytes of item i, as many of them as are there.
+pub fn body(query: &[u8], i: u16) -> Order
+    ensures { λ r. ⌜ OrderIs r (bodyAt (now (query .entry)) i) ⌝ }
+{
+    let at = 5 + item_count(query) as usize + i as usize * 4;
+    Order {
+        columns: [
+            byte(query, at),
+            byte(query, at + 1),
+            byte(query, at + 2),
+            byte(query, at + 3),
+        ],
+        len: there(query.len(), at),
+    }
+}
+
+// The order that item i says.
+pub fn order_at(query: &[u8], i: u16) -> Order
+    ensures { λ r. ⌜ OrderIs r (orderAt (now (query .entry)) i) ⌝ }
+{
+    orders::front(body(query, i), head(query, i) as usize)
+}

@@ -1,0 +1,97 @@
+// The query reader: the checks 1 to 6 of a query's bytes, and what the bytes say. Every function takes any bytes, in any number.
+mod bytes;
+mod item;
+mod sizes;
+mod twin;
+
+use orders::Order;
+use orders::Rule;
+ghost use mathlib.Core.Path.{_≡_};
+ghost use Prim.Native.Nat.{_+_};
+ghost use Rattle.theory.specs.Query.{columnCount, producedCount, testedCount, setCount, dependencyCount, orderCount, orderAt, ruleOf, dependencyAt, queryRefusal};
+ghost use Rattle.orders.specs.Orders.{orderOf, OrderIs, ruleIs, dependencyIs};
+
+// The number of columns, N.
+pub fn columns(query: &[u8]) -> u8
+    ensures { λ r. ⌜ r ≡ columnCount (now (query .entry)) ⌝ }
+{
+    bytes::byte(query, 0)
+}
+
+// The number of produced orders, P.
+pub fn produced(query: &[u8]) -> u8
+    ensures { λ r. ⌜ r ≡ producedCount (now (query .entry)) ⌝ }
+{
+    bytes::byte(query, 1)
+}
+
+// The number of tested orders, T.
+pub fn tested(query: &[u8]) -> u8
+    ensures { λ r. ⌜ r ≡ testedCount (now (query .entry)) ⌝ }
+{
+    bytes::byte(query, 2)
+}
+
+// The number of sets, S.
+pub fn sets(query: &[u8]) -> u8
+    ensures { λ r. ⌜ r ≡ setCount (now (query .entry)) ⌝ }
+{
+    bytes::byte(query, 3)
+}
+
+// The number of dependencies, D.
+pub fn dependencies(query: &[u8]) -> u8
+    ensures { λ r. ⌜ r ≡ dependencyCount (now (query .entry)) ⌝ }
+{
+    bytes::byte(query, 4)
+}
+
+// Interesting order i: the produced ones come first, then the tested ones.
+pub fn order(query: &[u8], i: u8) -> Order
+    ensures { λ r. ⌜ OrderIs r (orderAt (now (query .entry)) i) ⌝ }
+{
+    bytes::order_at(query, i as u16)
+}
+
+// What a dependency of a kind says in its four bytes.
+fn rule(kind: u8, body: Order) -> Rule
+    ensures { λ r. ⌜ ruleIs r ≡ ruleOf kind (orderOf body) ⌝ }
+{
+    let a = orders::column(body, 0);
+    let b = orders::column(body, 1);
+    if kind == 4 {
+        return Rule::Equal { a, b };
+    }
+    let c = orders::column(body, 2);
+    let d = orders::column(body, 3);
+    let count = orders::length(orders::front(body, kind as usize)) as u8;
+    Rule::Fix { count, a, b, c, d }
+}
+
+// Dependency i, counted from 0: the item i behind the interesting orders.
+pub fn dependency(query: &[u8], i: u8) -> orders::Dependency
+    ensures { λ r. ⌜ dependencyIs r ≡ dependencyAt (now (query .entry)) (orderCount (now (query .entry)) + i) ⌝ }
+{
+    let at = bytes::order_count(query) + i as u16;
+    let head = bytes::head(query, at);
+    let said = rule(head / 16, bytes::body(query, at));
+    orders::Dependency {
+        set: head % 16,
+        rule: said,
+    }
+}
+
+// The first of the query's own checks that refuses, by its number; 0 where none does.
+pub fn check(query: &[u8]) -> u8
+    ensures { λ r. ⌜ r ≡ queryRefusal (now (query .entry)) ⌝ }
+{
+    let sizes = sizes::sizes_refusal(query);
+    if sizes != 0 {
+        return sizes;
+    }
+    let items = item::items_refusal(query);
+    if items != 0 {
+        return items;
+    }
+    twin::twin_refusal(query)
+}

@@ -1,0 +1,73 @@
+-- A table's form: the code's way to the refusal, and what is known of a table that passes.
+use Prim.Native.Nat.{ℕ, suc, _*_, _<_, _≤_}
+use native.Mathlib.Omega.{arith}
+use mathlib.Core.Path.{_≡_, refl}
+use mathlib.Core.Bool.{Bool, true, false}
+use mathlib.Core.Logic.{_⊎_, inl, inr}
+use lib.Dec.{ltb}
+use lib.ListN.{length}
+use borrow.Author.Tests.{le-ltb, ltb-false, eqb-true, eq-eqb}
+use Rattle.theory.specs.Tests.{pick}
+use Rattle.theory.specs.Query.{Bytes, outside}
+use Rattle.theory.specs.Refusals.{passed}
+use Rattle.theory.specs.Table.{statesIn, producedIn, testedIn, setsIn, successorsBase, tableLength, formRefusal, startsRefusal, successorsRefusal}
+use Rattle.theory.proofs.Reflect.{says-false, says-or, says-ltb}
+use Rattle.table.specs.Form.{Formed, sizesRefusal, runRefusal}
+
+-- past the first check, the form is decided by the sizes and the number of bytes
+pub form-sizes : (t : Bytes) → 4 ≤ length t → sizesRefusal (statesIn t) (producedIn t) (testedIn t) (setsIn t) (length t) ≡ formRefusal t
+unfolding formRefusal sizesRefusal
+form-sizes t h = rw (le-ltb (length t) 4 h)
+
+-- a check that comes before others passes, and so do they
+past : (refused : Bool) (r rest : ℕ) → pick refused (suc r) rest ≡ passed → (refused ≡ false) × (rest ≡ passed)
+past true r rest e = absurd (omega arith)
+past false r rest e = (refl, e)
+
+-- the last check passes
+met : (test : Bool) (r : ℕ) → pick test passed (suc r) ≡ passed → test ≡ true
+met true r e = refl
+met false r e = absurd (omega arith)
+
+-- a size that is not outside its limits
+within : (low high n : ℕ) → outside low high n ≡ false → (low ≤ n) × (n ≤ high)
+within low high n e =
+    let f : ¬ ((n < low) ⊎ (high < n)) = says-false (says-or (says-ltb n low) (says-ltb high n)) e in
+    let below : ¬ (n < low) = λ l. f (inl l) in
+    let above : ¬ (high < n) = λ l. f (inr l) in
+    (omega arith, omega arith)
+
+-- what is known of a table whose form passes ..
+pub formed : (t : Bytes) → formRefusal t ≡ passed → Formed t
+unfolding formRefusal
+formed t e =
+    let (l, e₁) = past (ltb (length t) 4) 0 _ e in
+    let (q, e₂) = past (outside 1 128 (statesIn t)) 1 _ e₁ in
+    let (p, e₃) = past (outside 1 8 (producedIn t)) 1 _ e₂ in
+    let (n, e₄) = past (ltb 8 (testedIn t)) 1 _ e₃ in
+    let (s, e₅) = past (ltb 8 (setsIn t)) 1 _ e₄ in
+    record {
+      long = ltb-false (length t) 4 l;
+      some-states = within 1 128 (statesIn t) q .0;
+      few-states = within 1 128 (statesIn t) q .1;
+      some-produced = within 1 8 (producedIn t) p .0;
+      few-produced = within 1 8 (producedIn t) p .1;
+      few-tested = ltb-false 8 (testedIn t) n;
+      few-sets = ltb-false 8 (setsIn t) s;
+      total = eqb-true (length t) (tableLength t) (met _ 0 e₅);
+    }
+
+-- .. and that it passes where that holds
+pub form-passed : {t : Bytes} → Formed t → formRefusal t ≡ passed
+unfolding formRefusal
+form-passed {t} f =
+    simp (le-ltb, f .long, f .some-states, f .few-states, f .some-produced, f .few-produced, f .few-tested, f .few-sets, eq-eqb (length t) (tableLength t) (f .total))
+
+-- the starts and the successors are two runs of state numbers
+pub starts-run : (t : Bytes) → runRefusal t 4 (producedIn t) ≡ startsRefusal t
+unfolding runRefusal startsRefusal
+starts-run t = refl
+
+pub successors-run : (t : Bytes) → runRefusal t (successorsBase t) (statesIn t * setsIn t) ≡ successorsRefusal t
+unfolding runRefusal successorsRefusal
+successors-run t = refl

@@ -1,0 +1,23 @@
+-- `table::successors` meets its contract: a state's row ends where the successors end, or before.
+use native.Mathlib.Omega.{arith}
+use borrow.Author.Needs.{needs}
+use Rattle.table.proofs.RowLaws.{row-fits}
+use Rattle.table.proofs.rows.successors.Statement.{statement}
+use Rattle.table.proofs.rows.successors.Tie as tie
+
+successors-base-requires : tie.Need-successors-base-requires
+successors-base-requires c κs = search needs
+
+sets-requires : tie.Need-sets-requires
+sets-requires c κs = search needs
+
+row-requires : tie.Need-row-requires
+row-requires c κs =
+    let known = c .before .before .before .pre in
+    rw (c .before .successors-base .ensures .0, c .sets .ensures .0) (row-fits _ _ (omega arith) (known .1))
+
+returns : tie.Need-returns
+returns c = (cc, cc)
+
+pub successors-spec : {M : Type 1} → statement M
+successors-spec = tie.close (tie.spec successors-base-requires sets-requires row-requires returns)
