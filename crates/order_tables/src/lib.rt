@@ -3,17 +3,17 @@ use lookup::Asked;
 use lookup::Mark;
 use lookup::Moved;
 use orders::Order;
+use orders::Rule;
 use table::OrderHandle;
 use table::SetHandle;
 use table::StateNumber;
-
 ghost use mathlib.Core.Path.{_≡_};
-ghost use Prim.Native.Nat.{_+_, _*_, _<_};
-ghost use Rattle.theory.specs.Query.{queryRefusal, orderAt};
+ghost use Prim.Native.Nat.{_+_, _*_, _<_, _≤_, min};
+ghost use Rattle.theory.specs.Query.{queryRefusal, orderCount, orderAt, dependencyAt};
 ghost use Rattle.theory.specs.Table.{tableRefusal, enter, takeIn, ask};
-ghost use Rattle.orders.specs.Orders.{orderOf};
+ghost use Rattle.orders.specs.Orders.{orderOf, ruleIs};
 ghost use Rattle.lookup.specs.Answers.{answerOf, heldOf};
-ghost use Rattle.order_tables.specs.Codes.{refusedCode, answerCode, rowCode, columnsCode, orderCode};
+ghost use Rattle.order_tables.specs.Codes.{refusedCode, answerCode, rowCode, columnsCode, orderCode, kindCode, ruleColumns, dependencyCode};
 
 fn refused(n: u8) -> u32
     ensures { λ r. ⌜ r ≡ refusedCode n ⌝ }
@@ -124,4 +124,47 @@ pub extern "C" fn order_query_order(query: &[u8], i: u8) -> u64
 {
     let o = query::order(query, i);
     orders::length(o) as u64 + 256 * columns(o)
+}
+
+// How many left columns a fix has: its count, at most 4.
+fn lefts(count: u8) -> u64
+    ensures { λ r. ⌜ r ≡ min count 4 ⌝ }
+{
+    if count < 4 { count as u64 } else { 4 }
+}
+
+// A rule's kind.
+fn kind(rule: Rule) -> u64
+    ensures { λ r. ⌜ (r ≡ kindCode (ruleIs rule)) × (r ≤ 4) ⌝ }
+{
+    match rule {
+        Rule::Fix { count, a, b, c, d } => lefts(count),
+        Rule::Equal { a, b } => 4,
+    }
+}
+
+// A rule's columns, as an order: of a fix the left ones, then the right one.
+fn named(rule: Rule) -> Order
+    ensures { λ r. ⌜ columnsCode (orderOf r) ≡ columnsCode (ruleColumns (ruleIs rule)) ⌝ }
+{
+    match rule {
+        Rule::Fix { count, a, b, c, d } => Order {
+            columns: [a, b, c, d],
+            len: count as usize + 1,
+        },
+        Rule::Equal { a, b } => Order {
+            columns: [a, b, 0, 0],
+            len: 2,
+        },
+    }
+}
+
+// Dependency i of a query, counted from 0: its set, its kind, then its columns, a byte each.
+#[no_mangle]
+pub extern "C" fn order_query_dependency(query: &[u8], i: u8) -> u64
+    ensures { λ r. ⌜ r ≡ dependencyCode (dependencyAt (now (query .entry)) (orderCount (now (query .entry)) + i)) ⌝ }
+{
+    let d = query::dependency(query, i);
+    let rule = d.rule;
+    d.set as u64 + 256 * kind(rule) + 65536 * columns(named(rule))
 }

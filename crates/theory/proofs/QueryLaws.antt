@@ -40,7 +40,7 @@ sizes-fit b e =
       few-tested = ltb-false 8 (testedCount b) (s4 .0);
       few-sets = ltb-false 8 (setCount b) (s5 .0);
       few-dependencies = ltb-false 16 (dependencyCount b) (s6 .0);
-      total = eqb-true (length b) (5 + 5 * itemCount b) (s7 .0)
+      total = eqb-true (length b) (5 + 5 * itemCount b) (s7 .0);
     }
 
 pub query-sizes : (b : Bytes) → queryRefusal b ≡ passed → SizesFit b

@@ -6,31 +6,24 @@ use Rattle.order_tables.proofs.asked.Reads as reads
 use Rattle.order_tables.proofs.asked.Lts as lts
 use Rattle.order_tables.proofs.refused.Reads as refused-reads
 
--- src/lib.rt:37:24
 enum-told : tie.Need-enum-told
 enum-told c = search needs
 
--- src/lib.rt:38:27
 enum-told-2 : tie.Need-enum-told-2
 enum-told-2 c = search needs
 
--- src/lib.rt:39:24
 enum-known-answer : tie.Need-enum-known-answer
 enum-known-answer c = search needs
 
--- src/lib.rt:39:30
 refused-requires : tie.Need-refused-requires
 refused-requires c κs = search needs
 
--- src/lib.rt:33:1
 returns : tie.Need-returns
 returns c = rw (c .enum-told .given .1)
 
--- src/lib.rt:33:1
 returns-2 : tie.Need-returns-2
 returns-2 c = rw (c .enum-told2 .given .1)
 
--- src/lib.rt:33:1
 returns-3 : tie.Need-returns-3
 returns-3 c = rw (c .before .before .answer .given .1) (omega arith)
 

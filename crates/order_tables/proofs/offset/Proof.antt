@@ -6,23 +6,18 @@ use Rattle.order_tables.proofs.offset.Tie as tie
 use Rattle.order_tables.proofs.offset.Reads as reads
 use Rattle.order_tables.proofs.offset.Lts as lts
 
--- src/lib.rt:86:6
 add-result : tie.Need-add-result
 add-result c = search needs
 
--- src/lib.rt:86:21
 mul-result : tie.Need-mul-result
 mul-result c = omega (arith, mul-le-mul (le-of-lt (c .pre .1)) (le-of-lt (c .pre .2)))
 
--- src/lib.rt:86:6
 add-result-2 : tie.Need-add-result-2
 add-result-2 c = omega (arith, mul-le-mul (le-of-lt (c .pre .1)) (le-of-lt (c .pre .2)))
 
--- src/lib.rt:86:5
 cast-result : tie.Need-cast-result
 cast-result c = omega (arith, mul-le-mul (le-of-lt (c .pre .1)) (le-of-lt (c .pre .2)))
 
--- src/lib.rt:82:1
 returns : tie.Need-returns
 returns c = search needs
 

@@ -1,5 +1,5 @@
 use native.Mathlib.Omega.{arith}
-use Rattle.order_tables.specs.Codes.{orderCode, columnsCode}
+use Rattle.order_tables.specs.Codes.{orderCode}
 use borrow.Author.Needs.{needs}
 use Rattle.order_tables.proofs.order_query_order.Statement.{statement}
 use Rattle.order_tables.proofs.order_query_order.Tie as tie
@@ -9,27 +9,21 @@ use Rattle.order_tables.proofs.columns.Reads as columns-reads
 use Rattle.orders.proofs.length.Reads as length-reads
 use Rattle.query.proofs.order.Reads as order-reads
 
--- src/lib.rt:125:9
 order-requires : tie.Need-order-requires
 order-requires c κs = search needs
 
--- src/lib.rt:126:5
 length-requires : tie.Need-length-requires
 length-requires c κs = search needs
 
--- src/lib.rt:126:38
 columns-requires : tie.Need-columns-requires
 columns-requires c κs = search needs
 
--- src/lib.rt:126:32
 mul-result : tie.Need-mul-result
 mul-result c = search needs
 
--- src/lib.rt:126:5
 add-result : tie.Need-add-result
 add-result c = search needs
 
--- src/lib.rt:121:1
 returns : tie.Need-returns
 unfolding orderCode
 returns c = rw (← (c .before .before .order .ensures .order)) (omega arith)

@@ -8,15 +8,12 @@ use Rattle.order_tables.proofs.order_table_ask.Lts as lts
 use Rattle.lookup.proofs.Mark.ask.Reads as ask-reads
 use Rattle.order_tables.proofs.asked.Reads as asked-reads
 
--- src/lib.rt:78:11
 ask-requires : tie.Need-ask-requires
 ask-requires c κs = search needs
 
--- src/lib.rt:78:5
 asked-requires : tie.Need-asked-requires
 asked-requires c κs = search needs
 
--- src/lib.rt:71:1
 returns : tie.Need-returns
 returns c = c .asked .ensures ∙ ap answerCode (c .before .ask .ensures .0)
 

@@ -8,15 +8,12 @@ use Rattle.order_tables.proofs.order_table_enter.Lts as lts
 use Rattle.lookup.proofs.enter.Reads as enter-reads
 use Rattle.order_tables.proofs.moved.Reads as moved-reads
 
--- src/lib.rt:56:11
 enter-requires : tie.Need-enter-requires
 enter-requires c κs = search needs
 
--- src/lib.rt:56:5
 moved-requires : tie.Need-moved-requires
 moved-requires c κs = search needs
 
--- src/lib.rt:52:1
 returns : tie.Need-returns
 returns c = c .moved .ensures ∙ ap answerCode (c .before .enter .ensures .0)
 

@@ -11,31 +11,24 @@ use Rattle.order_tables.proofs.refused.Reads as refused-reads
 use Rattle.table.proofs.produced.Reads as produced-reads
 use Rattle.table.proofs.sets.Reads as sets-reads
 
--- src/lib.rt:95:5
 row-of-requires : tie.Need-row-of-requires
 row-of-requires c κs = search needs
 
--- src/lib.rt:97:9
 refused-requires : tie.Need-refused-requires
 refused-requires c κs = search needs
 
--- src/lib.rt:97:9
 returns : tie.Need-returns
 returns c = c .refused .ensures ∙ row-refused _ _ _ (c .before .before .row-of .ensures .1) (c .before .if1 .taken)
 
--- src/lib.rt:99:12
 produced-requires : tie.Need-produced-requires
 produced-requires c κs = search needs
 
--- src/lib.rt:99:52
 sets-requires : tie.Need-sets-requires
 sets-requires c κs = search needs
 
--- src/lib.rt:99:5
 offset-requires : tie.Need-offset-requires
 offset-requires c κs = search needs
 
--- src/lib.rt:90:1
 returns-2 : tie.Need-returns-2
 returns-2 c = c .offset .ensures ∙ rw (c .before .before .produced .ensures .0, c .before .sets .ensures .0) (row-granted _ _ _ (c .before .before .before .before .row-of .ensures .1) (c .before .before .before .if1 .left))
 

@@ -8,15 +8,12 @@ use Rattle.order_tables.proofs.order_table_take.Lts as lts
 use Rattle.lookup.proofs.Mark.take.Reads as take-reads
 use Rattle.order_tables.proofs.moved.Reads as moved-reads
 
--- src/lib.rt:67:11
 take-requires : tie.Need-take-requires
 take-requires c κs = search needs
 
--- src/lib.rt:67:5
 moved-requires : tie.Need-moved-requires
 moved-requires c κs = search needs
 
--- src/lib.rt:60:1
 returns : tie.Need-returns
 returns c = c .moved .ensures ∙ ap answerCode (c .before .take .ensures .0)
 

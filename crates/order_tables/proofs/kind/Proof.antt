@@ -1,0 +1,23 @@
+-- `order_tables::kind` meets its contract: a fix's left columns are counted, an equal's kind is 4.
+use lib.ListN.{length-take}
+use borrow.Author.Needs.{needs}
+use Rattle.order_tables.proofs.kind.Statement.{statement}
+use Rattle.order_tables.proofs.kind.Tie as tie
+
+enum-known-rule : tie.Need-enum-known-rule
+enum-known-rule c = search needs
+
+lefts-requires : tie.Need-lefts-requires
+lefts-requires c κs = search needs
+
+enum-known-rule-2 : tie.Need-enum-known-rule-2
+enum-known-rule-2 c = search needs
+
+returns : tie.Need-returns
+returns c = rw (c .before .before .rule .given .1, length-take) (search needs)
+
+returns-2 : tie.Need-returns-2
+returns-2 c = search needs
+
+pub kind-spec : {M : Type 1} → statement M
+kind-spec = tie.close (tie.spec enum-known-rule lefts-requires enum-known-rule-2 returns returns-2)
