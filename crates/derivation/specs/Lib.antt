@@ -1,3 +1,5 @@
-pub mod Keys
-pub mod Nodes
+-- What the functions of this crate promise, beside the theory.
 pub mod Columns
+pub mod Keys
+pub mod Results
+pub mod Nodes
