@@ -1,0 +1,45 @@
+-- `listing::held_part` meets its contract: its three pieces, one behind the other.
+use borrow.Author.Needs.{needs}
+use Rattle.listing.proofs.TextLaws.{wrote-on}
+use Rattle.listing.proofs.lines.held_part.Statement.{statement}
+use Rattle.listing.proofs.lines.held_part.Tie as tie
+
+slice-aggregate-word : tie.Need-slice-aggregate-word
+slice-aggregate-word c = search needs
+
+word-requires : tie.Need-word-requires
+word-requires c κs = search needs
+
+held-number-requires : tie.Need-held-number-requires
+held-number-requires c κs = search needs
+
+number-of-requires : tie.Need-number-of-requires
+number-of-requires c κs = search needs
+
+slice-aggregate-word-2 : tie.Need-slice-aggregate-word-2
+slice-aggregate-word-2 c = search needs
+
+word-requires-2 : tie.Need-word-requires-2
+word-requires-2 c κs = search needs
+
+same-length : tie.Need-same-length
+same-length c = search needs
+
+returns : tie.Need-returns
+returns c =
+    let end = c .before .before in
+    let number = end .before .before .before .before .before in
+    rw (← number .before .held-number .ensures) (wrote-on (number .before .before .before .before .before .word .ensures) (wrote-on (number .number-of .ensures) (end .word2 .ensures)))
+
+pub held-part-spec : {M : Type 1} → statement M
+held-part-spec =
+    tie.close
+    (tie.spec
+    slice-aggregate-word
+    word-requires
+    held-number-requires
+    number-of-requires
+    slice-aggregate-word-2
+    word-requires-2
+    same-length
+    returns)

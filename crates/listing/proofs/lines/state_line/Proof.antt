@@ -1,0 +1,59 @@
+-- `listing::state_line` meets its contract: its five pieces, one behind the other.
+use borrow.Author.Needs.{needs}
+use Rattle.theory.specs.Listing.{stateLine}
+use Rattle.listing.proofs.TextLaws.{wrote-on}
+use Rattle.listing.proofs.lines.state_line.Statement.{statement}
+use Rattle.listing.proofs.lines.state_line.Tie as tie
+
+slice-aggregate-word : tie.Need-slice-aggregate-word
+slice-aggregate-word c = search needs
+
+word-requires : tie.Need-word-requires
+word-requires c κs = search needs
+
+number-requires : tie.Need-number-requires
+number-requires c κs = search needs
+
+slice-aggregate-word-2 : tie.Need-slice-aggregate-word-2
+slice-aggregate-word-2 c = search needs
+
+word-requires-2 : tie.Need-word-requires-2
+word-requires-2 c κs = search needs
+
+successors-requires : tie.Need-successors-requires
+successors-requires c κs = search needs
+
+row-numbers-requires : tie.Need-row-numbers-requires
+row-numbers-requires c κs = search needs
+
+held-part-requires : tie.Need-held-part-requires
+held-part-requires c κs = search needs
+
+same-length : tie.Need-same-length
+same-length c = search needs
+
+returns : tie.Need-returns
+unfolding stateLine
+returns c =
+    let end = c .before .before in
+    let row = end .before .before .before .before in
+    let next = row .before .before .before .before .before in
+    let state = next .before .before .before .before .before in
+    rw (← row .before .before .successors .ensures .0)
+    (wrote-on (state .before .before .before .before .word .ensures)
+    (wrote-on (state .number .ensures) (wrote-on (next .word2 .ensures) (wrote-on (row .row-numbers .ensures) (end .held-part .ensures)))))
+
+pub state-line-spec : {M : Type 1} → statement M
+state-line-spec =
+    tie.close
+    (tie.spec
+    slice-aggregate-word
+    word-requires
+    number-requires
+    slice-aggregate-word-2
+    word-requires-2
+    successors-requires
+    row-numbers-requires
+    held-part-requires
+    same-length
+    returns)

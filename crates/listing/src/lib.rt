@@ -1,0 +1,35 @@
+// The listing of a table, written into a lent text.
+ghost use mathlib.Core.List.{_++_};
+ghost use Prim.Native.Nat.{_≤_};
+ghost use lib.ListN.{length};
+ghost use Rattle.theory.specs.Listing.{decimal, refusedWord, lineEnd, tableListing};
+ghost use Rattle.table.specs.Form.{Formed};
+ghost use Rattle.listing.specs.Text.{Printed};
+use lines::counts_line;
+use lines::start_lines;
+use lines::state_lines;
+use text::number;
+use text::word;
+
+mod lines;
+mod text;
+
+// The listing of a table with its count of nodes; how many bytes it has. They are the first ones of the text, and the others are kept.
+pub fn list(table: &[u8], nodes: usize, text: &mut [u8]) -> usize
+    requires { ⌜ Formed (now table) × (nodes ≤ 256) × (9500 ≤ length (now text)) ⌝ }
+    ensures { λ r. ⌜ Printed (now (text .entry)) (tableListing (now (table .entry)) nodes) (now (text .exit)) r ⌝ }
+{
+    let starts = counts_line(table, nodes, text, 0);
+    let states = start_lines(table, text, starts);
+    state_lines(table, text, states)
+}
+
+// The line of a refusal.
+pub fn refused(n: u8, text: &mut [u8]) -> usize
+    requires { ⌜ 12 ≤ length (now text) ⌝ }
+    ensures { λ r. ⌜ Printed (now (text .entry)) (refusedWord ++ (decimal n ++ lineEnd)) (now (text .exit)) r ⌝ }
+{
+    let at = word(text, 0, b"refused ");
+    let end = number(text, at, n as usize);
+    word(text, end, b"\n")
+}
