@@ -5,7 +5,6 @@ use mathlib.Core.List.{List, map}
 use lib.Dec.{eqb}
 use lib.ListN.{length, take}
 use Rattle.theory.specs.Closure.{addAll}
-use Rattle.theory.specs.Orders.{Query}
 use Rattle.theory.specs.Construction.{nodes, maxNodes, isWanted, longest}
 use Rattle.theory.specs.Refusals.{passed}
 use Rattle.theory.specs.Query.{Bytes, readQuery, queryRefusal}

@@ -1,0 +1,94 @@
+-- Nodes by their numbers: the marked ones, that marks tell different sets apart, and the number that a key has.
+use Prim.Native.Nat.{ℕ, zero, suc, _<_, suc-le-suc}
+use native.Mathlib.Nat.{not-suc-le-zero, le-of-suc-le-suc}
+use native.Mathlib.Omega.{arith}
+use mathlib.Core.Path.{_≡_, refl, sym, _∙_, ap, subst}
+use mathlib.Core.Bool.{Bool, true, false, false≢true}
+use mathlib.Core.Logic.{_⊎_, inl, inr, ⊎-elim}
+use mathlib.Core.List.{List, [], _∷_, map, List·Memᴰ, List·Memᴰ·head, List·Memᴰ·tail, List·Memᴰ·not-nil, List·Memᴰ·cases-cons, Memᴰ·cast}
+use lib.Dec.{eqb}
+use lib.ListN.{length, getD, set}
+use lib.Seq.{getD-set-same, getD-set-other, ext-getD}
+use borrow.Author.Tests.{ltb-true}
+use Rattle.theory.specs.Tests.{Says, holds, fails, Distinct, empty, also, position}
+use Rattle.theory.specs.Orders.{Order}
+use Rattle.theory.specs.Construction.{Marks, marked}
+use Rattle.theory.proofs.Reflect.{true-says, says-eqb, says-member, decides-number}
+use Rattle.theory.proofs.ListLaws.{Within, member-getD}
+use Rattle.orders.proofs.RunLaws.{position-member}
+use Rattle.derivation.specs.Keys.{keyOf}
+
+-- the marked nodes are those whose mark is set
+pub at-marked : (ms : Marks) (ns : List Order) (o : Order) → List·Memᴰ o (marked ms ns) → (i : ℕ) × (i < length ns) × (getD ms i false ≡ true) × (getD ns i [] ≡ o)
+at-marked [] ns o m = absurd (List·Memᴰ·not-nil m)
+at-marked (b ∷ ms) [] o m = absurd (List·Memᴰ·not-nil m)
+at-marked (true ∷ ms) (n ∷ ns) o m =
+    ⊎-elim (λ e. (zero, omega arith, refl, sym e)) (λ k. let t = at-marked ms ns o k in (suc (t .0), suc-le-suc (t .1), t .2, t .3)) (List·Memᴰ·cases-cons m)
+at-marked (false ∷ ms) (n ∷ ns) o m = let t = at-marked ms ns o m in (suc (t .0), suc-le-suc (t .1), t .2, t .3)
+
+pub marked-at : (ms : Marks) (ns : List Order) (i : ℕ) → i < length ns → getD ms i false ≡ true → List·Memᴰ (getD ns i []) (marked ms ns)
+marked-at [] ns i h e = absurd (false≢true e)
+marked-at (b ∷ ms) [] i h e = absurd (not-suc-le-zero h)
+marked-at (true ∷ ms) (n ∷ ns) zero h e = List·Memᴰ·head refl
+marked-at (false ∷ ms) (n ∷ ns) zero h e = absurd (false≢true e)
+marked-at (true ∷ ms) (n ∷ ns) (suc i) h e = List·Memᴰ·tail (marked-at ms ns i (le-of-suc-le-suc h) e)
+marked-at (false ∷ ms) (n ∷ ns) (suc i) h e = marked-at ms ns i (le-of-suc-le-suc h) e
+
+-- with one mark more there is one node more
+module _ (ms : Marks) (ns : List Order) (i : ℕ) (even : length ms ≡ length ns) where
+  pub set-keeps : Within (marked ms ns) (marked (set ms i true) ns)
+  set-keeps o m =
+      let t = at-marked ms ns o m in
+      Memᴰ·cast (sym (t .3)) (marked-at (set ms i true) ns (t .0) (t .1) (go (t .0) (t .1) (t .2) (says-eqb (t .0) i)))
+    where
+      go : (j : ℕ) → j < length ns → getD ms j false ≡ true → {b : Bool} → Says (j ≡ i) b → getD (set ms i true) j false ≡ true
+      go j h g (holds e) = rw e (getD-set-same ms i true false (omega arith))
+      go j h g (fails n) = getD-set-other ms i j true false n ∙ g
+
+  pub set-only : (o : Order) → List·Memᴰ o (marked (set ms i true) ns) → (getD ns i [] ≡ o) ⊎ List·Memᴰ o (marked ms ns)
+  set-only o m = let t = at-marked (set ms i true) ns o m in go (t .0) (t .1) (t .2) (t .3) (says-eqb (t .0) i)
+    where
+      go : (j : ℕ) → j < length ns → getD (set ms i true) j false ≡ true → getD ns j [] ≡ o → {b : Bool} → Says (j ≡ i) b → (getD ns i [] ≡ o) ⊎ List·Memᴰ o (marked ms ns)
+      go j h g p (holds e) = inl (rw e at p)
+      go j h g p (fails n) = inr (Memᴰ·cast (sym p) (marked-at ms ns j h (sym (getD-set-other ms i j true false n) ∙ g)))
+
+distinct-at : {ns : List Order} → Distinct ns → (i j : ℕ) → i < length ns → j < length ns → getD ns i [] ≡ getD ns j [] → i ≡ j
+distinct-at empty i j h k e = absurd (not-suc-le-zero h)
+distinct-at (also n d) zero zero h k e = refl
+distinct-at (also {xs} n d) zero (suc j) h k e = absurd (n (Memᴰ·cast e (member-getD xs j [] (le-of-suc-le-suc k))))
+distinct-at (also {xs} n d) (suc i) zero h k e = absurd (n (Memᴰ·cast (sym e) (member-getD xs i [] (le-of-suc-le-suc h))))
+distinct-at (also n d) (suc i) (suc j) h k e = ap suc (distinct-at d i j (le-of-suc-le-suc h) (le-of-suc-le-suc k) e)
+
+-- sets with the same nodes have the same marks
+pub marks-unique : {ns : List Order} → Distinct ns → (a b : Marks) → length a ≡ length ns → length b ≡ length ns → Within (marked a ns) (marked b ns) → Within (marked b ns) (marked a ns) → a ≡ b
+marks-unique {ns} d a b la lb f g =
+    ext-getD false a b (la ∙ sym lb) (λ i h. alike (getD a i false) (getD b i false) (also-in a b f i (omega arith)) (also-in b a g i (omega arith)))
+  where
+    also-in : (x y : Marks) → Within (marked x ns) (marked y ns) → (i : ℕ) → i < length ns → getD x i false ≡ true → getD y i false ≡ true
+    also-in x y w i h e =
+        let t = at-marked y ns (getD ns i []) (w (getD ns i []) (marked-at x ns i h e)) in
+        subst (λ j. getD y j false ≡ true) (distinct-at d (t .0) i (t .1) h (t .3)) (t .2)
+
+    alike : (x y : Bool) → (x ≡ true → y ≡ true) → (y ≡ true → x ≡ true) → x ≡ y
+    alike true y p q = sym (p refl)
+    alike false true p q = q refl
+    alike false false p q = refl
+
+-- the key of node i
+pub key-at : (ns : List Order) (i : ℕ) → i < length ns → getD (map keyOf ns) i 0 ≡ keyOf (getD ns i [])
+key-at [] i h = absurd (not-suc-le-zero h)
+key-at (n ∷ ns) zero h = refl
+key-at (n ∷ ns) (suc i) h = key-at ns i (le-of-suc-le-suc h)
+
+-- what stands at a key's number is the key
+pub position-at : (x : ℕ) (l : List ℕ) → position eqb x l < length l → getD l (position eqb x l) 0 ≡ x
+position-at x [] h = absurd (not-suc-le-zero h)
+position-at x (y ∷ l) h = go (says-eqb x y) h (position-at x l)
+  where
+    go : {b : Bool} → Says (x ≡ y) b → elim b [ true ↦ zero | false ↦ suc (position eqb x l) ] < suc (length l) → (position eqb x l < length l → getD l (position eqb x l) 0 ≡ x) →
+        getD (y ∷ l) (elim b [ true ↦ zero | false ↦ suc (position eqb x l) ]) 0 ≡ x
+    go (holds e) b rest = sym e
+    go (fails n) b rest = rest (le-of-suc-le-suc b)
+
+pub position-bound : (x : ℕ) (l : List ℕ) → List·Memᴰ x l → position eqb x l < length l
+position-bound x l m = ltb-true (position eqb x l) (length l) (position-member x l ∙ true-says (says-member decides-number x l) m)
