@@ -20,3 +20,4 @@ pub mod HeldLaws
 pub mod PasteLaws
 pub mod WriteLaws
 pub mod TableParts
+pub mod FinishLaws

@@ -4,3 +4,4 @@ pub mod Marks
 pub mod Close
 pub mod States
 pub mod Output
+pub mod Built
