@@ -9,7 +9,7 @@ use Rattle.theory.specs.Refusals.{passed, orderings-refused, states-refused, sp
 use Rattle.theory.specs.Query.{Bytes, producedCount, setCount, readQuery}
 use Rattle.theory.specs.Build.{Outcome, refused, built, construct, tableBytes}
 use Rattle.builder.specs.declared.construct.Built.{Built}
-use Rattle.builder.specs.Work.{StatesAre, nodesOf, statesOf}
+use Rattle.closure.specs.Work.{StatesAre, nodesOf, statesOf}
 use Rattle.builder.specs.Output.{NodesListed}
 use Rattle.builder.specs.Built.{answerOf, Done, lastCheck, fromStates}
 use Rattle.builder.proofs.HeldLaws.{node-count}

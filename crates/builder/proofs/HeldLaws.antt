@@ -22,13 +22,13 @@ use Rattle.query.proofs.Searches.{entry-at, entry-count}
 use Rattle.query.proofs.PassedLaws.{query-passed}
 use Rattle.query.proofs.ReadLaws.{interesting-at, interesting-count}
 use Rattle.derivation.specs.Keys.{keyOf, Small}
-use Rattle.derivation.specs.Nodes.{Prepared}
+use Rattle.nodes.specs.Nodes.{Prepared}
 use Rattle.derivation.proofs.KeyLaws.{key-injective}
-use Rattle.derivation.proofs.NodeKeys.{produced-small, kept-small}
-use Rattle.builder.specs.Work.{packMarks, nodesOf}
-use Rattle.builder.specs.Marks.{inMarks}
+use Rattle.nodes.proofs.NodeKeys.{produced-small, kept-small}
+use Rattle.closure.specs.Work.{packMarks, nodesOf}
+use Rattle.closure.specs.Marks.{inMarks}
 use Rattle.builder.specs.Output.{NodesListed, holdsKey, keyBits, heldBits}
-use Rattle.builder.proofs.MarkLaws.{marked-pack}
+use Rattle.closure.proofs.MarkLaws.{marked-pack}
 
 -- what the bits from i on are, as a number
 pub number-more : (f : ℕ → Bool) (n i : ℕ) → i < n → let bits = map f (upFrom 0 n) in number (drop i bits) ≡ bit (f i) + 2 * number (drop (i + 1) bits)

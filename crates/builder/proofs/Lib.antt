@@ -1,20 +1,4 @@
 -- What the proofs of this crate's functions share.
-pub mod MarkLaws
-pub mod CountLaws
-pub mod TraceLaws
-pub mod RuleLaws
-pub mod NumberLaws
-pub mod GrownLaws
-pub mod TakenLaws
-pub mod PositionLaws
-pub mod StateRows
-pub mod PlacedLaws
-pub mod WalkLaws
-pub mod JoinedLaws
-pub mod ContentLaws
-pub mod VisitLaws
-pub mod StartLaws
-pub mod BeginLaws
 pub mod ClearLaws
 pub mod HeldLaws
 pub mod PasteLaws

@@ -15,7 +15,7 @@ use Rattle.query.proofs.Searches.{entry-count}
 use Rattle.query.proofs.PassedLaws.{query-passed}
 use Rattle.query.proofs.ReadLaws.{produced-count}
 use Rattle.table.proofs.FormLaws.{formed}
-use Rattle.builder.specs.Work.{statesOf, contentsOf, StatesAre}
+use Rattle.closure.specs.Work.{statesOf, contentsOf, StatesAre}
 use Rattle.builder.specs.Output.{NodesListed, heldBits, stateHeld, heldPart}
 use Rattle.builder.proofs.HeldLaws.{node-count}
 use Rattle.builder.proofs.WriteLaws.{state-count, table-parts}

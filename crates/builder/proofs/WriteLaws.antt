@@ -17,7 +17,7 @@ use Rattle.theory.proofs.ListLaws.{member-getD}
 use Rattle.theory.proofs.RowLaws.{getD-map, concat-length, number-fits, number-split}
 use Rattle.query.proofs.Searches.{entry-at, entry-count}
 use Rattle.derivation.proofs.TurnLaws.{concat-more}
-use Rattle.builder.specs.Work.{packMarks, statesOf, stateRows}
+use Rattle.closure.specs.Work.{packMarks, statesOf, stateRows}
 use Rattle.builder.specs.Output.{heldPart, stateHeld}
 
 -- the successors of all states

@@ -1,7 +1,3 @@
 -- What the functions of this crate promise, beside the theory.
-pub mod Work
-pub mod Marks
-pub mod Close
-pub mod States
 pub mod Output
 pub mod Built

@@ -1,16 +1,13 @@
 // The construction for a query that passed its checks: 7, then 8, then 9 for an output shorter than the table. Every output byte is written after the last
 // check.
-use crate::states;
 use crate::write;
-use derivation::nodes;
-use derivation::wanted;
 ghost use mathlib.Core.Path.{_≡_};
 ghost use Prim.Native.Nat.{_≤_};
 ghost use lib.ListN.{length};
 ghost use Rattle.theory.specs.Refusals.{passed};
 ghost use Rattle.theory.specs.Query.{readQuery, queryRefusal};
 ghost use Rattle.theory.specs.Build.{refused, construct};
-ghost use Rattle.builder.specs.Work.{Ready, StatesAre};
+ghost use Rattle.closure.specs.Work.{Ready, StatesAre};
 ghost use Rattle.builder.specs.Output.{NodesListed};
 ghost use Rattle.builder.specs.Built.{Done, lastCheck, fromStates, answerOf};
 

@@ -1,7 +1,7 @@
 // The interesting orders that a set of nodes holds, as a number, bit i for order i.
-use crate::marks::marked;
+use closure::marks::marked;
 use derivation::keys::key;
-use derivation::nodes::find;
+use nodes::find;
 use orders::Order;
 ghost use mathlib.Core.Path.{_≡_};
 ghost use Prim.Native.Nat.{_+_, _*_, _≤_, _<_};
@@ -10,7 +10,7 @@ ghost use Rattle.theory.specs.Construction.{Marks};
 ghost use Rattle.theory.specs.Table.{bit};
 ghost use Rattle.orders.specs.Orders.{orderOf};
 ghost use Rattle.derivation.specs.Keys.{keyOf};
-ghost use Rattle.builder.specs.Work.{packMarks};
+ghost use Rattle.closure.specs.Work.{packMarks};
 ghost use Rattle.builder.specs.Output.{NodesListed, holdsKey, heldWord};
 
 // Whether an order is a node that is marked.

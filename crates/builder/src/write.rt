@@ -6,7 +6,7 @@ ghost use Prim.Native.Nat.{_+_, _*_, _/_, _%_, _≤_};
 ghost use lib.ListN.{length, drop};
 ghost use Rattle.theory.specs.Query.{readQuery};
 ghost use Rattle.theory.specs.Build.{tableBytes};
-ghost use Rattle.builder.specs.Work.{packMarks, statesOf, stateRows, StatesAre};
+ghost use Rattle.closure.specs.Work.{packMarks, statesOf, stateRows, StatesAre};
 ghost use Rattle.builder.specs.Output.{NodesListed, heldPart, placed};
 
 // How many bytes a table of q states, p produced orders and s sets has.

@@ -1,5 +1,3 @@
-// What follows from a query: the wanted columns, orderings as numbers, the results of a rule, and the nodes.
+// One step of the derivation: orderings as numbers, and the results of a rule on an ordering.
 pub mod keys;
-pub mod nodes;
 pub mod results;
-pub mod wanted;

@@ -104,7 +104,7 @@ pub extern "C" fn order_table_row(table: &[u8], state: u8) -> u32
 pub extern "C" fn order_query_check(query: &[u8]) -> u32
     ensures { λ r. ⌜ r ≡ refusedCode (queryRefusal (now (query .entry))) ⌝ }
 {
-    refused(query::check(query))
+    refused(query_check::check(query))
 }
 
 // The columns of an order, a byte each.

@@ -1,3 +1,2 @@
--- What the contracts and laws of the query reader cite, beside the theory.
-pub mod Sizes
+-- What is known of a query whose checks have passed.
 pub mod Passed

@@ -1,14 +1,11 @@
-// The query reader: the checks 1 to 6 of a query's bytes, and what the bytes say. Every function takes any bytes, in any number.
-mod bytes;
-mod item;
-mod sizes;
-mod twin;
+// The query reader: what a query's bytes say. Every function takes any bytes, in any number.
+pub mod bytes;
 
 use orders::Order;
 use orders::Rule;
 ghost use mathlib.Core.Path.{_≡_};
 ghost use Prim.Native.Nat.{_+_};
-ghost use Rattle.theory.specs.Query.{columnCount, producedCount, testedCount, setCount, dependencyCount, orderCount, orderAt, ruleOf, dependencyAt, queryRefusal};
+ghost use Rattle.theory.specs.Query.{columnCount, producedCount, testedCount, setCount, dependencyCount, orderCount, orderAt, ruleOf, dependencyAt};
 ghost use Rattle.orders.specs.Orders.{orderOf, OrderIs, ruleIs, dependencyIs};
 
 // The number of columns, N.
@@ -79,19 +76,4 @@ pub fn dependency(query: &[u8], i: u8) -> orders::Dependency
         set: head % 16,
         rule: said,
     }
-}
-
-// The first of the query's own checks that refuses, by its number; 0 where none does.
-pub fn check(query: &[u8]) -> u8
-    ensures { λ r. ⌜ r ≡ queryRefusal (now (query .entry)) ⌝ }
-{
-    let sizes = sizes::sizes_refusal(query);
-    if sizes != 0 {
-        return sizes;
-    }
-    let items = item::items_refusal(query);
-    if items != 0 {
-        return items;
-    }
-    twin::twin_refusal(query)
 }

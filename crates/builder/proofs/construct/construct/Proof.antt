@@ -1,5 +1,5 @@
 -- `builder::construct::construct` meets its contract: there are too many nodes, or the states follow.
-use Rattle.builder.proofs.JoinedLaws.{nodes-count}
+use Rattle.states.proofs.JoinedLaws.{nodes-count}
 use native.Mathlib.Omega.{arith}
 use lib.ListN.{length}
 use denote.Ref.{now}

@@ -6,7 +6,7 @@ use mathlib.Core.List.{[], _∷_}
 use denote.Ref.{now}
 use lib.ListN.{length, getD}
 use borrow.Author.Needs.{needs}
-use Rattle.builder.specs.Work.{statesOf}
+use Rattle.closure.specs.Work.{statesOf}
 use Rattle.builder.specs.Output.{heldBits, heldWord, stateHeld, heldPart, placed}
 use Rattle.builder.proofs.HeldLaws.{node-count}
 use Rattle.builder.proofs.PasteLaws.{placed-none, placed-more, placed-length}

@@ -1,0 +1,130 @@
+// Refusals 3, 4, 5: the items one by one, each for its form, its columns and a repeat.
+use orders::Order;
+use query::bytes;
+ghost use mathlib.Core.Path.{_≡_};
+ghost use lib.Dec.{eqb, ltb};
+ghost use lib.ListN.{drop};
+ghost use Rattle.theory.specs.Tests.{every, repeats};
+ghost use Rattle.theory.specs.Refusals.{firstOf};
+ghost use Rattle.theory.specs.Query.{itemCount, usedBy, bodyRefusal, orderRefusal, dependencyRefusal, itemRefusal};
+ghost use Rattle.orders.specs.Orders.{orderOf};
+
+// Whether the bytes from place `used` on are all 255.
+fn clear_from(body: Order, used: usize) -> bool
+    ensures { λ r. ⌜ r ≡ every (λ c. eqb c 255) (drop used (orderOf body)) ⌝ }
+{
+    let n = orders::length(body);
+    let mut i = used;
+    while i < n {
+        if orders::column(body, i) != 255 {
+            return false;
+        }
+        i += 1;
+    }
+    true
+}
+
+// Whether each column is below `columns`.
+fn below(o: Order, columns: u8) -> bool
+    ensures { λ r. ⌜ r ≡ every (λ c. ltb c columns) (orderOf o) ⌝ }
+{
+    let n = orders::length(o);
+    let mut i = 0;
+    while i < n {
+        if columns <= orders::column(o, i) {
+            return false;
+        }
+        i += 1;
+    }
+    true
+}
+
+// Whether a column stands twice.
+fn repeated(o: Order) -> bool
+    ensures { λ r. ⌜ r ≡ repeats eqb (orderOf o) ⌝ }
+{
+    let n = orders::length(o);
+    let mut i = 0;
+    while i < n {
+        if orders::has(orders::front(o, i), orders::column(o, i)) {
+            return true;
+        }
+        i += 1;
+    }
+    false
+}
+
+// An item's four bytes, of which `used` are columns.
+fn body_refusal(columns: u8, used: usize, body: Order) -> u8
+    ensures { λ r. ⌜ r ≡ bodyRefusal columns used (orderOf body) ⌝ }
+{
+    let named = orders::front(body, used);
+    if !clear_from(body, used) {
+        return 3;
+    }
+    if !below(named, columns) {
+        return 4;
+    }
+    if repeated(named) { 5 } else { 0 }
+}
+
+// An order, by its head and its four bytes.
+fn order_refusal(columns: u8, head: u8, body: Order) -> u8
+    ensures { λ r. ⌜ r ≡ orderRefusal columns head (orderOf body) ⌝ }
+{
+    if 4 < head {
+        3
+    } else {
+        body_refusal(columns, head as usize, body)
+    }
+}
+
+// How many of its four bytes a dependency of a kind uses.
+fn used_by(kind: u8) -> usize
+    ensures { λ r. ⌜ r ≡ usedBy kind ⌝ }
+{
+    if kind == 4 { 2 } else { kind as usize + 1 }
+}
+
+// A dependency, by its head and its four bytes.
+fn dependency_refusal(columns: u8, sets: u8, head: u8, body: Order) -> u8
+    ensures { λ r. ⌜ r ≡ dependencyRefusal columns sets head (orderOf body) ⌝ }
+{
+    let kind = head / 16;
+    if 4 < kind {
+        return 3;
+    }
+    if sets <= head % 16 {
+        return 3;
+    }
+    body_refusal(columns, used_by(kind), body)
+}
+
+// Item i: an order, or behind the orders a dependency.
+fn item_refusal(query: &[u8], i: u16) -> u8
+    ensures { λ r. ⌜ r ≡ itemRefusal (now (query .entry)) i ⌝ }
+{
+    let columns = bytes::byte(query, 0);
+    let head = bytes::head(query, i);
+    let body = bytes::body(query, i);
+    if i < bytes::order_count(query) {
+        return order_refusal(columns, head, body);
+    }
+    dependency_refusal(columns, bytes::byte(query, 3), head, body)
+}
+
+// The first item that is refused, if one is.
+pub fn items_refusal(query: &[u8]) -> u8
+    ensures { λ r. ⌜ r ≡ firstOf (itemRefusal (now (query .entry))) (itemCount (now (query .entry))) ⌝ }
+{
+    let n = bytes::item_count(query);
+    let mut i: u16 = 0;
+    while i < n {
+        let refusal = item_refusal(query, i);
+        if refusal != 0 {
+            return refusal;
+        }
+        i += 1;
+    }
+    0
+}
