@@ -5,3 +5,4 @@ pub mod PasteLaws
 pub mod WriteLaws
 pub mod TableParts
 pub mod FinishLaws
+pub mod WholeLaws

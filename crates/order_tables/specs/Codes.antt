@@ -7,6 +7,7 @@ use Rattle.theory.specs.Tests.{pick}
 use Rattle.theory.specs.Orders.{Order, Rule, fix, equal, Dependency}
 use Rattle.theory.specs.Refusals.{passed}
 use Rattle.theory.specs.Query.{Bytes}
+use Rattle.theory.specs.Build.{Outcome, refused, built}
 use Rattle.theory.specs.Table.{Answer, setsIn, successorsBase, rowRefusal}
 
 -- A refusal's number times 65,536.
@@ -16,6 +17,11 @@ refusedCode n = n * 65536
 -- A lookup's answer: the refusal's number times 65,536 plus the value, which is 0 on refusal.
 abbrev pub answerCode : Answer → ℕ
 answerCode a = a .refusal * 65536 + a .value
+
+-- A build's: the table's length, or the refusal.
+abbrev pub buildCode : Outcome → ℕ
+buildCode (refused n) = refusedCode n
+buildCode (built t n) = length t
 
 -- A row's answer: its offset in the table, or the refusal.
 unfoldable pub rowCode : Bytes → ℕ → ℕ

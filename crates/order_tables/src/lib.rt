@@ -1,4 +1,5 @@
 // The functions for C and Rust. A table lookup returns its refusal's number times 65,536 plus a value, which is 0 on refusal.
+use builder::construct::Built;
 use lookup::Asked;
 use lookup::Mark;
 use lookup::Moved;
@@ -11,9 +12,11 @@ ghost use mathlib.Core.Path.{_≡_};
 ghost use Prim.Native.Nat.{_+_, _*_, _<_, _≤_, min};
 ghost use Rattle.theory.specs.Query.{queryRefusal, orderCount, orderAt, dependencyAt};
 ghost use Rattle.theory.specs.Table.{tableRefusal, enter, takeIn, ask};
+ghost use Rattle.theory.specs.Build.{outcome, outputAfter, scratchAfter};
+ghost use lib.ListN.{length};
 ghost use Rattle.orders.specs.Orders.{orderOf, ruleIs};
 ghost use Rattle.lookup.specs.Answers.{answerOf, heldOf};
-ghost use Rattle.order_tables.specs.Codes.{refusedCode, answerCode, rowCode, columnsCode, orderCode, kindCode, ruleColumns, dependencyCode};
+ghost use Rattle.order_tables.specs.Codes.{refusedCode, answerCode, buildCode, rowCode, columnsCode, orderCode, kindCode, ruleColumns, dependencyCode};
 
 fn refused(n: u8) -> u32
     ensures { λ r. ⌜ r ≡ refusedCode n ⌝ }
@@ -38,6 +41,23 @@ fn asked(answer: Asked) -> u32
         Asked::NotHeld => 0,
         Asked::Refused(n) => refused(n),
     }
+}
+
+fn built(answer: Built) -> u32
+    requires { ⌜ answer .length ≤ 1292 ⌝ }
+    ensures { λ r. ⌜ r ≡ answer .refusal * 65536 + answer .length ⌝ }
+{
+    answer.refusal as u32 * 65536 + answer.length as u32
+}
+
+// Build a query's table: its length.
+#[no_mangle]
+pub extern "C" fn order_table_build(query: &[u8], scratch: &mut [u8], output: &mut [u8]) -> u32
+    ensures { λ r. ⌜ r ≡ buildCode (outcome (now (query .entry)) (length (now (scratch .entry))) (length (now (output .entry)))) ⌝ }
+    ensures { λ r. ⌜ now (output .exit) ≡ outputAfter (now (query .entry)) (length (now (scratch .entry))) (now (output .entry)) ⌝ }
+    ensures { λ r. ⌜ now (scratch .exit) ≡ scratchAfter (now (query .entry)) (now (scratch .entry)) ⌝ }
+{
+    built(builder::build(query, scratch, output))
 }
 
 // The table check.

@@ -1,5 +1,6 @@
 -- A table's form: the code's way to the refusal, and what is known of a table that passes.
 use Prim.Native.Nat.{ℕ, suc, _*_, _<_, _≤_}
+use native.Mathlib.Nat.{mul-le-mul}
 use native.Mathlib.Omega.{arith}
 use mathlib.Core.Path.{_≡_, refl}
 use mathlib.Core.Bool.{Bool, true, false}
@@ -62,6 +63,11 @@ pub form-passed : {t : Bytes} → Formed t → formRefusal t ≡ passed
 unfolding formRefusal
 form-passed {t} f =
     simp (le-ltb, f .long, f .some-states, f .few-states, f .some-produced, f .few-produced, f .few-tested, f .few-sets, eq-eqb (length t) (tableLength t) (f .total))
+
+-- no table is longer than the longest
+pub formed-short : {t : Bytes} → Formed t → length t ≤ 1292
+formed-short {t} f =
+    omega (arith, f .total, f .few-produced, f .few-states, mul-le-mul (f .few-states) (f .few-sets))
 
 -- the starts and the successors are two runs of state numbers
 pub starts-run : (t : Bytes) → runRefusal t 4 (producedIn t) ≡ startsRefusal t

@@ -18,4 +18,3 @@ pub mod TableLaws
 pub mod LookupLaw
 pub mod Faithfulness
 pub mod DemandThree
-pub mod TrialsTheorem

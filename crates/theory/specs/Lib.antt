@@ -10,4 +10,3 @@ pub mod Table
 pub mod Build
 pub mod Lookups
 pub mod Listing
-pub mod Trials

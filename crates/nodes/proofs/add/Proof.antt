@@ -1,4 +1,4 @@
--- `derivation::nodes::add` meets its contract: a key that is there, one without room, and a new one.
+-- `nodes::add` meets its contract: a key that is there, one without room, and a new one.
 use native.Mathlib.Omega.{arith}
 use borrow.Author.Needs.{needs}
 use Rattle.nodes.proofs.AddedLaws.{added-there, added-new, added-full}

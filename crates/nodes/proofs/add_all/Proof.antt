@@ -1,4 +1,4 @@
--- `derivation::nodes::add_all` meets its contract. The loop's invariant: the first j keys were added, and there was room.
+-- `nodes::add_all` meets its contract. The loop's invariant: the first j keys were added, and there was room.
 use Prim.Native.Nat.{_≤_, _+_, _-_}
 use native.Mathlib.Omega.{arith}
 use mathlib.Core.Path.{_≡_}

@@ -1,4 +1,4 @@
--- `derivation::nodes::add_produced` meets its contract. The loop's invariant: the first i produced orders were added, and there was room.
+-- `nodes::add_produced` meets its contract. The loop's invariant: the first i produced orders were added, and there was room.
 use Prim.Native.Nat.{ℕ, _≤_, _+_, _-_}
 use native.Mathlib.Omega.{arith}
 use mathlib.Core.Path.{_≡_}

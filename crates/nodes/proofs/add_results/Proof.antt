@@ -1,4 +1,4 @@
--- `derivation::nodes::add_results` meets its contract: what was written is added.
+-- `nodes::add_results` meets its contract: what was written is added.
 use borrow.Author.Needs.{needs}
 use Rattle.nodes.proofs.add_results.Statement.{statement}
 use Rattle.nodes.proofs.add_results.Tie as tie

@@ -1,4 +1,4 @@
--- `derivation::nodes::add_shorter` meets its contract: nothing where the ordering is empty, else one key.
+-- `nodes::add_shorter` meets its contract: nothing where the ordering is empty, else one key.
 use native.Mathlib.Omega.{arith}
 use mathlib.Core.Path.{_≡_}
 use mathlib.Core.List.{dropLast}

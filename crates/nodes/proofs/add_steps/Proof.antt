@@ -1,4 +1,4 @@
--- `derivation::nodes::add_steps` meets its contract. The loop's invariant: the results of the first i rules were added, and there was room.
+-- `nodes::add_steps` meets its contract. The loop's invariant: the results of the first i rules were added, and there was room.
 use Prim.Native.Nat.{_≤_, _+_, _-_}
 use native.Mathlib.Omega.{arith}
 use mathlib.Core.Path.{_≡_, ap}

@@ -1,4 +1,4 @@
--- `derivation::nodes::find` meets its contract. The loop's invariant: the key is not among the first i.
+-- `nodes::find` meets its contract. The loop's invariant: the key is not among the first i.
 use Prim.Native.Nat.{_-_}
 use native.Mathlib.Omega.{arith}
 use mathlib.Core.Path.{_≡_, sym, _∙_}

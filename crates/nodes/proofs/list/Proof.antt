@@ -1,4 +1,4 @@
--- `derivation::nodes::list` meets its contract. The loop's invariant: the first n entries are the keys found so far, and the first i of them were visited.
+-- `nodes::list` meets its contract. The loop's invariant: the first n entries are the keys found so far, and the first i of them were visited.
 use Prim.Native.Nat.{_-_}
 use native.Mathlib.Omega.{arith}
 use borrow.Author.Needs.{needs}

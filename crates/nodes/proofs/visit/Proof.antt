@@ -1,4 +1,4 @@
--- `derivation::nodes::visit` meets its contract: the shorter ordering, then the results of the rules.
+-- `nodes::visit` meets its contract: the shorter ordering, then the results of the rules.
 use native.Mathlib.Omega.{arith}
 use mathlib.Core.Path.{_≡_, sym, _∙_, ap}
 use lib.ListN.{take, getD}

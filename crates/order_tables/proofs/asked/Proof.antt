@@ -1,10 +1,8 @@
+-- `order_tables::asked` meets its contract, case by case.
 use native.Mathlib.Omega.{arith}
 use borrow.Author.Needs.{needs}
 use Rattle.order_tables.proofs.asked.Statement.{statement}
 use Rattle.order_tables.proofs.asked.Tie as tie
-use Rattle.order_tables.proofs.asked.Reads as reads
-use Rattle.order_tables.proofs.asked.Lts as lts
-use Rattle.order_tables.proofs.refused.Reads as refused-reads
 
 enum-told : tie.Need-enum-told
 enum-told c = search needs

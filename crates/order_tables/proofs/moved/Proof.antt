@@ -1,10 +1,8 @@
+-- `order_tables::moved` meets its contract, case by case.
 use native.Mathlib.Omega.{arith}
 use borrow.Author.Needs.{needs}
 use Rattle.order_tables.proofs.moved.Statement.{statement}
 use Rattle.order_tables.proofs.moved.Tie as tie
-use Rattle.order_tables.proofs.moved.Reads as reads
-use Rattle.order_tables.proofs.moved.Lts as lts
-use Rattle.order_tables.proofs.refused.Reads as refused-reads
 
 enum-known-answer : tie.Need-enum-known-answer
 enum-known-answer c = search needs

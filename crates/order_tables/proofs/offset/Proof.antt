@@ -1,10 +1,9 @@
+-- `order_tables::offset` meets its contract: no sum passes the range.
 use native.Mathlib.Omega.{arith}
 use native.Mathlib.Nat.{mul-le-mul, le-of-lt}
 use borrow.Author.Needs.{needs}
 use Rattle.order_tables.proofs.offset.Statement.{statement}
 use Rattle.order_tables.proofs.offset.Tie as tie
-use Rattle.order_tables.proofs.offset.Reads as reads
-use Rattle.order_tables.proofs.offset.Lts as lts
 
 add-result : tie.Need-add-result
 add-result c = search needs

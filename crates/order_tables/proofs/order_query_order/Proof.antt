@@ -1,13 +1,9 @@
+-- `order_tables::order_query_order` meets its contract.
 use native.Mathlib.Omega.{arith}
 use Rattle.order_tables.specs.Codes.{orderCode}
 use borrow.Author.Needs.{needs}
 use Rattle.order_tables.proofs.order_query_order.Statement.{statement}
 use Rattle.order_tables.proofs.order_query_order.Tie as tie
-use Rattle.order_tables.proofs.order_query_order.Reads as reads
-use Rattle.order_tables.proofs.order_query_order.Lts as lts
-use Rattle.order_tables.proofs.columns.Reads as columns-reads
-use Rattle.orders.proofs.length.Reads as length-reads
-use Rattle.query.proofs.order.Reads as order-reads
 
 order-requires : tie.Need-order-requires
 order-requires c κs = search needs

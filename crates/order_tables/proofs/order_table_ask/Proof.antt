@@ -1,12 +1,9 @@
+-- `order_tables::order_table_ask` meets its contract: the lookup's answer as one number.
 use mathlib.Core.Path.{_∙_, ap}
 use Rattle.order_tables.specs.Codes.{answerCode}
 use borrow.Author.Needs.{needs}
 use Rattle.order_tables.proofs.order_table_ask.Statement.{statement}
 use Rattle.order_tables.proofs.order_table_ask.Tie as tie
-use Rattle.order_tables.proofs.order_table_ask.Reads as reads
-use Rattle.order_tables.proofs.order_table_ask.Lts as lts
-use Rattle.lookup.proofs.Mark.ask.Reads as ask-reads
-use Rattle.order_tables.proofs.asked.Reads as asked-reads
 
 ask-requires : tie.Need-ask-requires
 ask-requires c κs = search needs

@@ -1,12 +1,9 @@
+-- `order_tables::order_table_enter` meets its contract: the lookup's answer as one number.
 use mathlib.Core.Path.{_∙_, ap}
 use Rattle.order_tables.specs.Codes.{answerCode}
 use borrow.Author.Needs.{needs}
 use Rattle.order_tables.proofs.order_table_enter.Statement.{statement}
 use Rattle.order_tables.proofs.order_table_enter.Tie as tie
-use Rattle.order_tables.proofs.order_table_enter.Reads as reads
-use Rattle.order_tables.proofs.order_table_enter.Lts as lts
-use Rattle.lookup.proofs.enter.Reads as enter-reads
-use Rattle.order_tables.proofs.moved.Reads as moved-reads
 
 enter-requires : tie.Need-enter-requires
 enter-requires c κs = search needs

@@ -1,15 +1,9 @@
+-- `order_tables::order_table_row` meets its contract: the refusal, or the offset.
 use mathlib.Core.Path.{_∙_}
 use Rattle.order_tables.proofs.CodeLaws.{row-refused, row-granted}
 use borrow.Author.Needs.{needs}
 use Rattle.order_tables.proofs.order_table_row.Statement.{statement}
 use Rattle.order_tables.proofs.order_table_row.Tie as tie
-use Rattle.order_tables.proofs.order_table_row.Reads as reads
-use Rattle.order_tables.proofs.order_table_row.Lts as lts
-use Rattle.lookup.proofs.row_of.Reads as row-of-reads
-use Rattle.order_tables.proofs.offset.Reads as offset-reads
-use Rattle.order_tables.proofs.refused.Reads as refused-reads
-use Rattle.table.proofs.produced.Reads as produced-reads
-use Rattle.table.proofs.sets.Reads as sets-reads
 
 row-of-requires : tie.Need-row-of-requires
 row-of-requires c κs = search needs

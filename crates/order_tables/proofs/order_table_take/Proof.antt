@@ -1,12 +1,9 @@
+-- `order_tables::order_table_take` meets its contract: the lookup's answer as one number.
 use mathlib.Core.Path.{_∙_, ap}
 use Rattle.order_tables.specs.Codes.{answerCode}
 use borrow.Author.Needs.{needs}
 use Rattle.order_tables.proofs.order_table_take.Statement.{statement}
 use Rattle.order_tables.proofs.order_table_take.Tie as tie
-use Rattle.order_tables.proofs.order_table_take.Reads as reads
-use Rattle.order_tables.proofs.order_table_take.Lts as lts
-use Rattle.lookup.proofs.Mark.take.Reads as take-reads
-use Rattle.order_tables.proofs.moved.Reads as moved-reads
 
 take-requires : tie.Need-take-requires
 take-requires c κs = search needs

@@ -1,4 +1,4 @@
--- `query::check` meets its contract: the first of the three checks that refuses.
+-- `query_check::check` meets its contract: the first of the three checks that refuses.
 use borrow.Author.Needs.{needs}
 use Rattle.theory.specs.Query.{queryRefusal}
 use Rattle.theory.proofs.Picks.{picks}

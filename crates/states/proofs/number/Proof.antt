@@ -1,3 +1,4 @@
+-- `states::number` meets its contract: the starts are more than there is room for, or the walk goes on from them.
 use mathlib.Core.Path.{_∙_}
 use denote.Ref.{now}
 use Rattle.theory.proofs.QueryLaws.{query-sizes}

@@ -1,4 +1,4 @@
--- `derivation::wanted::asked` meets its contract. The loop's invariant: the columns of the first i orders were added.
+-- `wanted::asked` meets its contract. The loop's invariant: the columns of the first i orders were added.
 use Prim.Native.Nat.{_-_}
 use native.Mathlib.Omega.{arith}
 use lib.ListN.{take}

@@ -1,4 +1,4 @@
--- `derivation::wanted::by_dependency` meets its contract: the rule read is that of the dependency, and a mask has room for its columns.
+-- `wanted::by_dependency` meets its contract: the rule read is that of the dependency, and a mask has room for its columns.
 use mathlib.Core.Path.{sym, ap, subst}
 use denote.Ref.{now}
 use borrow.Author.Needs.{needs}

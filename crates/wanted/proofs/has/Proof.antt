@@ -1,4 +1,4 @@
--- `derivation::wanted::has` meets its contract: a mask has no bit from 16 on.
+-- `wanted::has` meets its contract: a mask has no bit from 16 on.
 use borrow.Author.Needs.{needs}
 use Rattle.orders.proofs.OrderLaws.{past-mask}
 use Rattle.wanted.proofs.has.Statement.{statement}

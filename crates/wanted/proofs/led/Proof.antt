@@ -1,4 +1,4 @@
--- `derivation::wanted::led` meets its contract: the column was in the mask, or nothing is to add.
+-- `wanted::led` meets its contract: the column was in the mask, or nothing is to add.
 use mathlib.Core.Path.{_≡_}
 use mathlib.Core.Bool.{true, false}
 use borrow.Author.Needs.{needs}

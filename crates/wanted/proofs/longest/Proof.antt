@@ -1,4 +1,4 @@
--- `derivation::wanted::longest` meets its contract. The loop's invariant: `most` is the longest of the first i orders.
+-- `wanted::longest` meets its contract. The loop's invariant: `most` is the longest of the first i orders.
 use Prim.Native.Nat.{_-_}
 use native.Mathlib.Omega.{arith}
 use mathlib.Core.Path.{_∙_, ap}

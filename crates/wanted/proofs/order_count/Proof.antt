@@ -1,4 +1,4 @@
--- `derivation::wanted::order_count` meets its contract: there are at most 8 orders of each kind.
+-- `wanted::order_count` meets its contract: there are at most 8 orders of each kind.
 use native.Mathlib.Omega.{arith}
 use denote.Ref.{now}
 use borrow.Author.Needs.{needs}

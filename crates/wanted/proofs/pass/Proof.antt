@@ -1,4 +1,4 @@
--- `derivation::wanted::pass` meets its contract. The loop's invariant: the first i rules were used.
+-- `wanted::pass` meets its contract. The loop's invariant: the first i rules were used.
 use Prim.Native.Nat.{_-_}
 use native.Mathlib.Omega.{arith}
 use lib.ListN.{take}

@@ -1,4 +1,4 @@
--- `derivation::wanted::wanted` meets its contract. The loop's invariant: the mask has the columns of the interesting orders, and only wanted ones.
+-- `wanted::wanted` meets its contract. The loop's invariant: the mask has the columns of the interesting orders, and only wanted ones.
 use Prim.Native.Nat.{_-_}
 use native.Mathlib.Omega.{arith}
 use denote.Ref.{now}

@@ -1,4 +1,4 @@
--- `derivation::wanted::widened` meets its contract: the right column of a fix leads to the left ones, and each column of an equal to the other.
+-- `wanted::widened` meets its contract: the right column of a fix leads to the left ones, and each column of an equal to the other.
 use mathlib.Core.Path.{sym, subst}
 use mathlib.Core.List.{List·Memᴰ·head, List·Memᴰ·tail, List·Memᴰ·eq-of-singleton}
 use borrow.Author.Needs.{needs}

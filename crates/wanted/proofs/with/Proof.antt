@@ -1,4 +1,4 @@
--- `derivation::wanted::with` meets its contract: the shift loses no bit, and its one bit is the column's.
+-- `wanted::with` meets its contract: the shift loses no bit, and its one bit is the column's.
 use Prim.Native.Nat.{_*_, _%_, _^_}
 use native.Mathlib.Nat.{one-mul}
 use native.Mathlib.Omega.{arith}

@@ -1,4 +1,4 @@
--- `derivation::wanted::with_order` meets its contract. The loop's invariant: the first i columns were added.
+-- `wanted::with_order` meets its contract. The loop's invariant: the first i columns were added.
 use Prim.Native.Nat.{_-_}
 use native.Mathlib.Omega.{arith}
 use lib.ListN.{take}

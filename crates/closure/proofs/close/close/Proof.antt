@@ -1,3 +1,4 @@
+-- `closure::close::close` meets its contract. Passes are made until one adds nothing; each pass before that adds a mark.
 use Prim.Native.Nat.{_-_}
 use mathlib.Core.Path.{_≡_}
 use borrow.Author.Needs.{needs}
@@ -10,9 +11,6 @@ use Rattle.closure.proofs.TraceLaws.{visit-less}
 use Rattle.closure.proofs.TakenLaws.{Taking, ready-room, taken-none, taken-more, taken-all}
 use Rattle.closure.proofs.close.close.Statement.{statement}
 use Rattle.closure.proofs.close.close.Tie as tie
-use Rattle.closure.proofs.close.close.Reads as reads
-use Rattle.closure.proofs.close.close.Lts as lts
-use Rattle.closure.proofs.close.pass.Reads as pass-reads
 
 abbrev Inv-loop : tie.InvT-loop
 Inv-loop query nodes n marks₀ set wanted longest marks = (length marks ≡ 32) × ((ms : Marks) → length ms ≡ n → marks₀ ≡ packMarks ms → Grown (nodesOf query) (Taking query set ms) ms marks)
@@ -20,27 +18,21 @@ Inv-loop query nodes n marks₀ set wanted longest marks = (length marks ≡ 32)
 abbrev μ-loop : tie.MeasureT-loop
 μ-loop query nodes n marks₀ set wanted longest marks = n - held n marks
 
--- src/close.rt:198:5
 loop-holds : tie.Need-loop-holds Inv-loop μ-loop
 loop-holds c = let s = c .before .before .before in (s .pre .1, λ ms l e. taken-none (s .pre .0) (s .args .set) ms l e)
 
--- src/close.rt:199:12
 pass-requires : tie.Need-pass-requires Inv-loop μ-loop
 pass-requires c κs = let s = c .before .before .before .before .before in (ready-room (s .pre .0) (s .args .set) (c .before .loop .inv .0), s .pre .0 .prepared .shallow)
 
--- src/close.rt:200:13
 same-length : tie.Need-same-length Inv-loop μ-loop
 same-length c = search needs
 
--- src/close.rt:200:13
 returns : tie.Need-returns Inv-loop μ-loop
 returns c = let s = c .before .before .before .before .before .before .before .before .before in let p = c .before .before .before .pass in (p .ensures .long, λ ms l e. taken-all (s .pre .0) (s .args .set) ms (p .ensures) (c .if1 .taken) (c .before .before .before .before .before .loop .inv .1 ms l e))
 
--- src/close.rt:198:5
 loop-less : tie.Need-loop-less Inv-loop μ-loop
 loop-less c = let s = c .before .before .before .before .before .before .before .before .before in visit-less (ready-room (s .pre .0) (s .args .set) (c .before .before .before .before .before .loop .inv .0)) (c .before .before .before .pass .ensures) (c .if1 .left)
 
--- src/close.rt:198:5
 loop-again : tie.Need-loop-again Inv-loop μ-loop
 loop-again c = let s = c .before .before .before .before .before .before .before .before .before in let p = c .before .before .before .pass in (p .ensures .long, λ ms l e. taken-more (s .pre .0) (s .args .set) ms (p .ensures) (c .before .before .before .before .before .loop .inv .1 ms l e))
 

@@ -1,3 +1,4 @@
+-- `closure::close::mark_all` meets its contract. The invariant: the first i keys are marked.
 use native.Mathlib.Omega.{arith}
 use mathlib.Core.Path.{_≡_}
 use Rattle.derivation.proofs.TurnLaws.{take-more}
@@ -8,9 +9,6 @@ use lib.ListN.{take}
 use Rattle.closure.specs.Close.{Marking}
 use Rattle.closure.proofs.close.mark_all.Statement.{statement}
 use Rattle.closure.proofs.close.mark_all.Tie as tie
-use Rattle.closure.proofs.close.mark_all.Reads as reads
-use Rattle.closure.proofs.close.mark_all.Lts as lts
-use Rattle.closure.proofs.close.mark_key.Reads as mark-key-reads
 
 abbrev Inv-loop : tie.InvT-loop
 Inv-loop nodes n marks₀ keys m count₀ j₀ marks count j = (j ≤ m) × Marking (take n nodes) (take j keys) marks₀ marks count
@@ -18,44 +16,34 @@ Inv-loop nodes n marks₀ keys m count₀ j₀ marks count j = (j ≤ m) × Mark
 abbrev μ-loop : tie.MeasureT-loop
 μ-loop nodes n marks₀ keys m count₀ j₀ marks count j = m - j
 
--- src/close.rt:45:5
 loop-holds : tie.Need-loop-holds Inv-loop μ-loop
 loop-holds c = (omega arith, room-none (c .before .before .before .pre .0))
 
--- src/close.rt:46:44
 mul-mark-key : tie.Need-mul-mark-key Inv-loop μ-loop
 mul-mark-key c = search needs
 
--- src/close.rt:46:44
 shared-slice-read-mark-key : tie.Need-shared-slice-read-mark-key Inv-loop μ-loop
 shared-slice-read-mark-key c = search needs
 
--- src/close.rt:46:18
 mark-key-requires : tie.Need-mark-key-requires Inv-loop μ-loop
 mark-key-requires c κs = search needs
 
--- src/close.rt:46:9
 add-count : tie.Need-add-count Inv-loop μ-loop
 add-count c = search needs
 
--- src/close.rt:47:9
 add-j : tie.Need-add-j Inv-loop μ-loop
 add-j c = search needs
 
--- src/close.rt:45:5
 loop-less : tie.Need-loop-less Inv-loop μ-loop
 loop-less c = search needs
 
--- src/close.rt:45:5
 loop-again : tie.Need-loop-again Inv-loop μ-loop
 loop-again c = let at = c .before .before .before .before .before .before .loop in let s = c .before .before .before .before .before .before .before .before .before .before in
     (omega arith, room-more (s .pre .0) (take-more (s .args .keys .now) (at .j) 0 (omega arith)) (at .inv .1) (c .before .before .mark-key .ensures))
 
--- src/close.rt:39:1
 same-length : tie.Need-same-length Inv-loop μ-loop
 same-length c = search needs
 
--- src/close.rt:39:1
 returns : tie.Need-returns Inv-loop μ-loop
 returns c = let end : c .before .loop .j ≡ c .before .before .before .before .before .args .m = omega arith in rw end at (c .before .loop .inv .1)
 

@@ -1,3 +1,4 @@
+-- `closure::close::mark_dependency` meets its contract: a dependency of another set adds nothing.
 use mathlib.Core.Path.{ap}
 use borrow.Author.Tests.{eq-eqb, ne-eqb}
 use Rattle.theory.specs.Orders.{Dependency}
@@ -5,29 +6,20 @@ use Rattle.closure.proofs.TraceLaws.{room-none}
 use borrow.Author.Needs.{needs}
 use Rattle.closure.proofs.close.mark_dependency.Statement.{statement}
 use Rattle.closure.proofs.close.mark_dependency.Tie as tie
-use Rattle.closure.proofs.close.mark_dependency.Reads as reads
-use Rattle.closure.proofs.close.mark_dependency.Lts as lts
-use Rattle.closure.proofs.close.mark_results.Reads as mark-results-reads
-use Rattle.query.proofs.dependency.Reads as dependency-reads
 
--- src/close.rt:108:9
 dependency-requires : tie.Need-dependency-requires
 dependency-requires c κs = search needs
 
--- src/close.rt:111:9
 returns : tie.Need-returns
 returns c = let own = ap (λ (d : Dependency). d .set) (c .before .dependency .ensures) in let s = c .before .before .before .before .before in
     rw (← own, ne-eqb (c .before .dependency .result .set) (s .args .set) (c .if1 .taken)) (room-none (s .pre .0))
 
--- src/close.rt:114:5
 mark-results-requires : tie.Need-mark-results-requires
 mark-results-requires c κs = search needs
 
--- src/close.rt:94:1
 same-length : tie.Need-same-length
 same-length c = search needs
 
--- src/close.rt:94:1
 returns-2 : tie.Need-returns-2
 returns-2 c = let d = c .before .before .before .before .before .dependency in
     let own = ap (λ (x : Dependency). x .set) (d .ensures) in

@@ -1,43 +1,31 @@
+-- `closure::close::mark_key` meets its contract: the key is no node's, is marked, or is marked now.
 use native.Mathlib.Omega.{arith}
 use Rattle.closure.proofs.TraceLaws.{key-absent, key-there, key-new}
 use borrow.Author.Needs.{needs}
 use Rattle.closure.proofs.close.mark_key.Statement.{statement}
 use Rattle.closure.proofs.close.mark_key.Tie as tie
-use Rattle.closure.proofs.close.mark_key.Reads as reads
-use Rattle.closure.proofs.close.mark_key.Lts as lts
-use Rattle.closure.proofs.marks.mark.Reads as mark-reads
-use Rattle.closure.proofs.marks.marked.Reads as marked-reads
-use Rattle.nodes.proofs.find.Reads as find-reads
 
--- src/close.rt:27:9
 find-requires : tie.Need-find-requires
 find-requires c κs = search needs
 
--- src/close.rt:29:9
 returns : tie.Need-returns
 returns c = let s = c .before .before .before .before in key-absent (s .pre) (s .args .key) (omega arith)
 
--- src/close.rt:31:8
 marked-requires : tie.Need-marked-requires
 marked-requires c κs = search needs
 
--- src/close.rt:32:9
 same-length : tie.Need-same-length
 same-length c = search needs
 
--- src/close.rt:32:9
 returns-2 : tie.Need-returns-2
 returns-2 c = let s = c .before .before .before .before .before .before .before in key-there (s .pre) (s .args .key) (cc)
 
--- src/close.rt:34:5
 mark-requires : tie.Need-mark-requires
 mark-requires c κs = search needs
 
--- src/close.rt:23:1
 same-length-2 : tie.Need-same-length-2
 same-length-2 c = search needs
 
--- src/close.rt:23:1
 returns-3 : tie.Need-returns-3
 returns-3 c = let s = c .before .before .before .before .before .before .before .before .before .before .before in key-new (s .pre) (s .args .key) (omega arith) (cc) (cc)
 

@@ -1,3 +1,4 @@
+-- `closure::close::mark_steps` meets its contract. The invariant: the results of the first i dependencies are marked.
 use Rattle.closure.proofs.RuleLaws.{resultsIn, rules-read}
 use Rattle.theory.specs.Query.{orderCount, dependencyCount}
 use native.Mathlib.Omega.{arith}
@@ -14,10 +15,6 @@ use Rattle.derivation.specs.Keys.{keptKeys}
 use Rattle.closure.specs.Close.{Marking}
 use Rattle.closure.proofs.close.mark_steps.Statement.{statement}
 use Rattle.closure.proofs.close.mark_steps.Tie as tie
-use Rattle.closure.proofs.close.mark_steps.Reads as reads
-use Rattle.closure.proofs.close.mark_steps.Lts as lts
-use Rattle.closure.proofs.close.mark_dependency.Reads as mark-dependency-reads
-use Rattle.query.proofs.dependencies.Reads as dependencies-reads
 
 abbrev Inv-loop : tie.InvT-loop
 Inv-loop query nodes n marks₀ o set wanted longest rules count₀ i₀ marks count i = (i ≤ rules) × Marking (take n nodes) (keptKeys wanted longest (concat (map (resultsIn query set (orderOf o)) (upFrom (orderCount query) i)))) marks₀ marks count
@@ -25,40 +22,31 @@ Inv-loop query nodes n marks₀ o set wanted longest rules count₀ i₀ marks c
 abbrev μ-loop : tie.MeasureT-loop
 μ-loop query nodes n marks₀ o set wanted longest rules count₀ i₀ marks count i = rules - i
 
--- src/close.rt:131:9
 dependencies-requires : tie.Need-dependencies-requires Inv-loop μ-loop
 dependencies-requires c κs = search needs
 
--- src/close.rt:134:5
 loop-holds : tie.Need-loop-holds Inv-loop μ-loop
 loop-holds c = (omega arith, room-none (c .before .before .before .before .pre .0))
 
--- src/close.rt:135:18
 mark-dependency-requires : tie.Need-mark-dependency-requires Inv-loop μ-loop
 mark-dependency-requires c κs = search needs
 
--- src/close.rt:135:9
 add-count : tie.Need-add-count Inv-loop μ-loop
 add-count c = search needs
 
--- src/close.rt:136:9
 add-i : tie.Need-add-i Inv-loop μ-loop
 add-i c = search needs
 
--- src/close.rt:134:5
 loop-less : tie.Need-loop-less Inv-loop μ-loop
 loop-less c = search needs
 
--- src/close.rt:134:5
 loop-again : tie.Need-loop-again Inv-loop μ-loop
 loop-again c = let at = c .before .before .before .before .before .loop in let s = c .before .before .before .before .before .before .before .before .before .before in let a = s .args in
     (omega arith, room-more (s .pre .0) (kept-more (a .wanted) (a .longest) (resultsIn (a .query .now) (a .set) (orderOf (a .o))) (orderCount (a .query .now)) (at .i)) (at .inv .1) (c .before .before .mark-dependency .ensures))
 
--- src/close.rt:118:1
 same-length : tie.Need-same-length Inv-loop μ-loop
 same-length c = search needs
 
--- src/close.rt:118:1
 returns : tie.Need-returns Inv-loop μ-loop
 returns c = let a = c .before .before .before .before .before .before .args in
     let end : c .before .loop .i ≡ dependencyCount (a .query .now) = omega arith in

@@ -1,3 +1,4 @@
+-- `closure::close::visit` meets its contract: an unmarked node gives nothing, a marked one its shorter ordering and its steps.
 use native.Mathlib.Omega.{arith}
 use mathlib.Core.Path.{_≡_, sym, ap, _∙_}
 use mathlib.Core.Bool.{true, false, not, Bool·not-not}
@@ -13,52 +14,36 @@ use Rattle.closure.proofs.TraceLaws.{room-none, room-more}
 use borrow.Author.Needs.{needs}
 use Rattle.closure.proofs.close.visit.Statement.{statement}
 use Rattle.closure.proofs.close.visit.Tie as tie
-use Rattle.closure.proofs.close.visit.Reads as reads
-use Rattle.closure.proofs.close.visit.Lts as lts
-use Rattle.closure.proofs.close.mark_shorter.Reads as mark-shorter-reads
-use Rattle.closure.proofs.close.mark_steps.Reads as mark-steps-reads
-use Rattle.closure.proofs.marks.marked.Reads as marked-reads
-use Rattle.derivation.proofs.keys.order.Reads as order-reads
 
--- src/close.rt:155:9
 marked-requires : tie.Need-marked-requires
 marked-requires c κs = search needs
 
--- src/close.rt:156:9
 same-length : tie.Need-same-length
 same-length c = search needs
 
--- src/close.rt:156:9
 returns : tie.Need-returns
 returns c = let s = c .before .before .before .before .before .before in
     let out : inMarks (s .args .marks .now) (s .args .i) ≡ false = sym (c .before .marked .ensures) ∙ sym (Bool·not-not (c .before .marked .result)) ∙ ap not (c .if1 .taken) in
     rw out (room-none (s .pre .0))
 
--- src/close.rt:158:25
 mul-order : tie.Need-mul-order
 mul-order c = search needs
 
--- src/close.rt:158:25
 shared-slice-read-order : tie.Need-shared-slice-read-order
 shared-slice-read-order c = search needs
 
--- src/close.rt:158:9
 order-requires : tie.Need-order-requires
 order-requires c κs = search needs
 
--- src/close.rt:159:9
 mark-shorter-requires : tie.Need-mark-shorter-requires
 mark-shorter-requires c κs = search needs
 
--- src/close.rt:160:13
 mark-steps-requires : tie.Need-mark-steps-requires
 mark-steps-requires c κs = search needs
 
--- src/close.rt:160:5
 add-result : tie.Need-add-result
 add-result c = search needs
 
--- src/close.rt:142:1
 same-length-2 : tie.Need-same-length-2
 same-length-2 c = search needs
 
@@ -68,7 +53,6 @@ visited c =
     let a = c .before .before .before .before .before .before .before .before .args in
     ap orderOfKey (getD-take (a .n) (a .nodes .now) (a .i) 0 (omega arith)) ∙ sym (c .order .ensures .order)
 
--- src/close.rt:142:1
 returns-2 : tie.Need-returns-2
 returns-2 c = let s = c .before .before .before .before .before .before .before .before .before .before .before .before .before .before .before .before in let a = s .args in
     let there : inMarks (a .marks .now) (a .i) ≡ true = sym (c .before .before .before .before .before .before .before .before .before .before .before .marked .ensures) ∙ sym (Bool·not-not (c .before .before .before .before .before .before .before .before .before .before .before .marked .result)) ∙ ap not (c .before .before .before .before .before .before .before .before .before .before .if1 .left) in

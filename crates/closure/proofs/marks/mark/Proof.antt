@@ -1,4 +1,4 @@
--- `builder::marks::mark` meets its contract: the shift gives the bit's own power of two.
+-- `closure::marks::mark` meets its contract: the shift gives the bit's own power of two.
 use Prim.Native.Nat.{_*_, _/_, _%_, _^_}
 use native.Mathlib.Nat.{one-mul}
 use native.Mathlib.Omega.{arith}

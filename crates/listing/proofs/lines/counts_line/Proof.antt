@@ -1,4 +1,4 @@
--- `listing::counts_line` meets its contract: its five pieces, one behind the other.
+-- `listing::lines::counts_line` meets its contract: its five pieces, one behind the other.
 use borrow.Author.Needs.{needs}
 use Rattle.theory.specs.Listing.{countsLine}
 use Rattle.listing.proofs.TextLaws.{wrote-on}

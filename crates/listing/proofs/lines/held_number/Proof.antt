@@ -1,4 +1,4 @@
--- `listing::held_number` meets its contract, by that of `held`.
+-- `listing::lines::held_number` meets its contract, by that of `held`.
 use borrow.Author.Needs.{needs}
 use Rattle.listing.proofs.lines.held_number.Statement.{statement}
 use Rattle.listing.proofs.lines.held_number.Tie as tie

@@ -1,4 +1,4 @@
--- `listing::held_part` meets its contract: its three pieces, one behind the other.
+-- `listing::lines::held_part` meets its contract: its three pieces, one behind the other.
 use borrow.Author.Needs.{needs}
 use Rattle.listing.proofs.TextLaws.{wrote-on}
 use Rattle.listing.proofs.lines.held_part.Statement.{statement}

@@ -1,4 +1,4 @@
--- `listing::row_numbers` meets its contract. The loop's invariant: the first i numbers are written, each of at most 4 bytes.
+-- `listing::lines::row_numbers` meets its contract. The loop's invariant: the first i numbers are written, each of at most 4 bytes.
 use Prim.Native.Nat.{_*_, _-_, _≤_}
 use native.Mathlib.Omega.{arith}
 use mathlib.Core.Path.{_≡_, refl, ap}

@@ -1,4 +1,4 @@
--- `listing::start_line` meets its contract: its four pieces, one behind the other.
+-- `listing::lines::start_line` meets its contract: its four pieces, one behind the other.
 use borrow.Author.Needs.{needs}
 use Rattle.theory.specs.Listing.{startLine}
 use Rattle.listing.proofs.TextLaws.{wrote-on}

@@ -1,4 +1,4 @@
--- `listing::start_lines` meets its contract. The loop's invariant: the first p lines are written, each of at most 14 bytes.
+-- `listing::lines::start_lines` meets its contract. The loop's invariant: the first p lines are written, each of at most 14 bytes.
 use Prim.Native.Nat.{_*_, _-_, _≤_}
 use native.Mathlib.Omega.{arith}
 use mathlib.Core.Path.{_≡_, refl, ap}

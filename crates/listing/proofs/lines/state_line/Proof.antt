@@ -1,4 +1,4 @@
--- `listing::state_line` meets its contract: its five pieces, one behind the other.
+-- `listing::lines::state_line` meets its contract: its five pieces, one behind the other.
 use borrow.Author.Needs.{needs}
 use Rattle.theory.specs.Listing.{stateLine}
 use Rattle.listing.proofs.TextLaws.{wrote-on}

@@ -1,4 +1,4 @@
--- `listing::state_lines` meets its contract. The loop's invariant: the first lines are written, one per state passed, each of at most 58 bytes.
+-- `listing::lines::state_lines` meets its contract. The loop's invariant: the first lines are written, one per state passed, each of at most 58 bytes.
 use Prim.Native.Nat.{_*_, _-_, _≤_}
 use native.Mathlib.Omega.{arith}
 use mathlib.Core.Path.{_≡_, refl, ap}

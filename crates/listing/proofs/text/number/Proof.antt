@@ -1,4 +1,4 @@
--- `listing::number` meets its contract: three digits are enough below a thousand.
+-- `listing::text::number` meets its contract: three digits are enough below a thousand.
 use native.Mathlib.Omega.{arith}
 use borrow.Author.Needs.{needs}
 use Rattle.listing.proofs.TextLaws.{wrote-as}

@@ -1,4 +1,4 @@
--- `listing::spaced_number` meets its contract: its two pieces, one behind the other.
+-- `listing::text::spaced_number` meets its contract: its two pieces, one behind the other.
 use borrow.Author.Needs.{needs}
 use Rattle.listing.proofs.TextLaws.{wrote-on}
 use Rattle.listing.proofs.text.spaced_number.Statement.{statement}

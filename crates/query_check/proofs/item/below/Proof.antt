@@ -1,4 +1,4 @@
--- `query::item::below` meets its contract. The loop's invariant: the answer is that of the columns from i on.
+-- `query_check::item::below` meets its contract. The loop's invariant: the answer is that of the columns from i on.
 use Prim.Native.Nat.{_-_}
 use native.Mathlib.Omega.{arith}
 use mathlib.Core.Path.{_≡_, refl, sym, _∙_}

@@ -1,4 +1,4 @@
--- `query::item::body_refusal` meets its contract, by what the three searches found.
+-- `query_check::item::body_refusal` meets its contract, by what the three searches found.
 use borrow.Author.Tests.{not-true, not-false}
 use borrow.Author.Needs.{needs}
 use Rattle.theory.specs.Query.{bodyRefusal}

@@ -1,4 +1,4 @@
--- `query::item::clear_from` meets its contract. The loop's invariant: the answer is that of the bytes from i on.
+-- `query_check::item::clear_from` meets its contract. The loop's invariant: the answer is that of the bytes from i on.
 use Prim.Native.Nat.{_-_}
 use native.Mathlib.Omega.{arith}
 use mathlib.Core.Path.{_≡_, refl, sym, _∙_}

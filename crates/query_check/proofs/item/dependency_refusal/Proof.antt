@@ -1,4 +1,4 @@
--- `query::item::dependency_refusal` meets its contract.
+-- `query_check::item::dependency_refusal` meets its contract.
 use borrow.Author.Tests.{le-ltb, lt-leb}
 use borrow.Author.Needs.{needs}
 use Rattle.theory.specs.Query.{dependencyRefusal}

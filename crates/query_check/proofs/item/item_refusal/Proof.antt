@@ -1,4 +1,4 @@
--- `query::item::item_refusal` meets its contract: an order before P + T, a dependency from there on.
+-- `query_check::item::item_refusal` meets its contract: an order before P + T, a dependency from there on.
 use native.Mathlib.Omega.{arith}
 use denote.Ref.{now}
 use borrow.Author.Tests.{lt-ltb, le-ltb}

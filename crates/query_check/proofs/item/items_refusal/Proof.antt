@@ -1,4 +1,4 @@
--- `query::item::items_refusal` meets its contract. The loop's invariant: the first i items pass.
+-- `query_check::item::items_refusal` meets its contract. The loop's invariant: the first i items pass.
 use Prim.Native.Nat.{_-_, _≤_}
 use native.Mathlib.Omega.{arith}
 use mathlib.Core.Path.{_≡_, refl, sym}

@@ -1,4 +1,4 @@
--- `query::item::order_refusal` meets its contract.
+-- `query_check::item::order_refusal` meets its contract.
 use borrow.Author.Needs.{needs}
 use Rattle.theory.specs.Query.{orderRefusal}
 use Rattle.theory.proofs.Picks.{picks}

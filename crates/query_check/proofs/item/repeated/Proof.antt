@@ -1,4 +1,4 @@
--- `query::item::repeated` meets its contract. The loop's invariant: none of the first i columns is among those before it.
+-- `query_check::item::repeated` meets its contract. The loop's invariant: none of the first i columns is among those before it.
 use Prim.Native.Nat.{ℕ, _-_, _<_}
 use native.Mathlib.Omega.{arith}
 use mathlib.Core.Path.{_≡_, sym}

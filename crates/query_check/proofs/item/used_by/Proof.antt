@@ -1,4 +1,4 @@
--- `query::item::used_by` meets its contract.
+-- `query_check::item::used_by` meets its contract.
 use native.Mathlib.Numerals.{add-one}
 use borrow.Author.Tests.{ne-eqb}
 use borrow.Author.Needs.{needs}

@@ -1,4 +1,4 @@
--- `query::sizes::outside` meets its contract.
+-- `query_check::sizes::outside` meets its contract.
 use borrow.Author.Tests.{lt-ltb, le-ltb}
 use Rattle.query_check.proofs.sizes.outside.Statement.{statement}
 use Rattle.query_check.proofs.sizes.outside.Tie as tie

@@ -1,4 +1,4 @@
--- `query::sizes::sized` meets its contract: at each return the tests before it have gone the other way.
+-- `query_check::sizes::sized` meets its contract: at each return the tests before it have gone the other way.
 use borrow.Author.Needs.{needs}
 use Rattle.query_check.specs.Sizes.{sizesOf}
 use Rattle.theory.proofs.Picks.{picks}

@@ -1,4 +1,4 @@
--- `query::sizes::sizes_refusal` meets its contract: the theory's tests, of the numbers that were read.
+-- `query_check::sizes::sizes_refusal` meets its contract: the theory's tests, of the numbers that were read.
 use borrow.Author.Needs.{needs}
 use Rattle.theory.specs.Query.{sizesRefusal}
 use Rattle.query_check.specs.Sizes.{sizesOf}

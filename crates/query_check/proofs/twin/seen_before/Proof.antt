@@ -1,4 +1,4 @@
--- `query::twin::seen_before` meets its contract. The loop's invariant: none of the first j orders is order i.
+-- `query_check::twin::seen_before` meets its contract. The loop's invariant: none of the first j orders is order i.
 use Prim.Native.Nat.{ℕ, _-_, _<_}
 use native.Mathlib.Omega.{arith}
 use mathlib.Core.Path.{_≡_, sym, _∙_}

@@ -1,4 +1,4 @@
--- `query::twin::twin_refusal` meets its contract. The loop's invariant: none of the first i orders was seen before it.
+-- `query_check::twin::twin_refusal` meets its contract. The loop's invariant: none of the first i orders was seen before it.
 use Prim.Native.Nat.{ℕ, _-_, _<_}
 use native.Mathlib.Omega.{arith}
 use mathlib.Core.Path.{_≡_, refl}

@@ -1,4 +1,4 @@
--- `builder::states::find_state` meets its contract. No row before row i is the marks; the first j bytes of row i are those of the marks.
+-- `states::numbered::find_state` meets its contract. No row before row i is the marks; the first j bytes of row i are those of the marks.
 use Prim.Native.Nat.{ℕ, _+_, _*_, _-_, _<_, _≤_}
 use native.Mathlib.Omega.{arith}
 use mathlib.Core.Path.{_≡_, sym}

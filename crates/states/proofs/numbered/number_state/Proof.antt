@@ -1,4 +1,4 @@
--- `builder::states::number_state` meets its contract, by the three ways to number a state.
+-- `states::numbered::number_state` meets its contract, by the three ways to number a state.
 use native.Mathlib.Omega.{arith}
 use denote.Ref.{now}
 use borrow.Author.Needs.{needs}

@@ -1,4 +1,4 @@
--- `builder::starts::number_start` meets its contract.
+-- `states::starts::number_start` meets its contract.
 use native.Mathlib.Omega.{arith}
 use mathlib.Core.Path.{subst}
 use mathlib.Core.List.{[]}

@@ -1,4 +1,4 @@
--- `builder::starts::number_starts` meets its contract. The loop's invariant: the starts before number p are numbered and written.
+-- `states::starts::number_starts` meets its contract. The loop's invariant: the starts before number p are numbered and written.
 use Prim.Native.Nat.{_-_, _≤_}
 use native.Mathlib.Omega.{arith}
 use mathlib.Core.Path.{_≡_, refl, _∙_, subst}

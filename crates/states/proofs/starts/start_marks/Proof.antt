@@ -1,4 +1,4 @@
--- `builder::starts::start_marks` meets its contract. The loop's invariant: the first i prefixes, by their lengths, are marked.
+-- `states::starts::start_marks` meets its contract. The loop's invariant: the first i prefixes, by their lengths, are marked.
 use Prim.Native.Nat.{ℕ, _+_, _-_, _≤_}
 use native.Mathlib.Omega.{arith}
 use mathlib.Core.Path.{_≡_, sym, _∙_, ap, ap₂}

@@ -1,4 +1,4 @@
--- `builder::walk::read_state` meets its contract: a row written over a whole row.
+-- `states::walk::read_state` meets its contract: a row written over a whole row.
 use mathlib.Core.Path.{sym, _∙_}
 use denote.Ref.{now}
 use borrow.Author.Needs.{needs}

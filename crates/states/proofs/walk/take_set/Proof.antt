@@ -1,4 +1,4 @@
--- `builder::walk::take_set` meets its contract: the row of state i is its marks, and those after the set are numbered.
+-- `states::walk::take_set` meets its contract: the row of state i is its marks, and those after the set are numbered.
 use native.Mathlib.Omega.{arith}
 use mathlib.Core.Path.{_∙_, ap, subst}
 use mathlib.Core.List.{[]}

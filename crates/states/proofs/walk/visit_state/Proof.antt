@@ -1,4 +1,4 @@
--- `builder::walk::visit_state` meets its contract. The loop's invariant: state i has taken the sets before number s.
+-- `states::walk::visit_state` meets its contract. The loop's invariant: state i has taken the sets before number s.
 use Prim.Native.Nat.{_+_, _*_, _-_, _≤_}
 use native.Mathlib.Omega.{arith}
 use mathlib.Core.Path.{_≡_, refl, sym, _∙_, subst}

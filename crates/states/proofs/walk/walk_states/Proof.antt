@@ -1,4 +1,4 @@
--- `builder::walk::walk_states` meets its contract. The loop's invariant: the states before number i have been visited.
+-- `states::walk::walk_states` meets its contract. The loop's invariant: the states before number i have been visited.
 use Prim.Native.Nat.{_-_}
 use native.Mathlib.Omega.{arith}
 use mathlib.Core.Path.{_≡_, refl, _∙_, subst}

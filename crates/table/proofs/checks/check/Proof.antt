@@ -1,4 +1,4 @@
--- `table::check` meets its contract: a form that passes is what the other checks require.
+-- `table::checks::check` meets its contract: a form that passes is what the other checks require.
 use mathlib.Core.Path.{sym, _∙_}
 use borrow.Author.Needs.{needs}
 use Rattle.theory.specs.Table.{tableRefusal}

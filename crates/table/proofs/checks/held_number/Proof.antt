@@ -1,4 +1,4 @@
--- `table::held_number` meets its contract, by that of `held`.
+-- `table::checks::held_number` meets its contract, by that of `held`.
 use borrow.Author.Needs.{needs}
 use Rattle.table.proofs.checks.held_number.Statement.{statement}
 use Rattle.table.proofs.checks.held_number.Tie as tie

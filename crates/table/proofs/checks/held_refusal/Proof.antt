@@ -1,4 +1,4 @@
--- `table::held_refusal` meets its contract: the one test picks the number.
+-- `table::checks::held_refusal` meets its contract: the one test picks the number.
 use borrow.Author.Needs.{needs}
 use Rattle.theory.specs.Table.{heldRefusal}
 use Rattle.theory.proofs.Picks.{picks}

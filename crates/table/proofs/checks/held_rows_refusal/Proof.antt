@@ -1,4 +1,4 @@
--- `table::held_rows_refusal` meets its contract. The loop's invariant: no held bytes that were passed are refused.
+-- `table::checks::held_rows_refusal` meets its contract. The loop's invariant: no held bytes that were passed are refused.
 use Prim.Native.Nat.{_≤_, _-_}
 use mathlib.Core.Path.{_≡_, refl}
 use denote.Ref.{now}

@@ -1,4 +1,4 @@
--- `table::power` meets its contract: the shift loses no bit.
+-- `table::checks::power` meets its contract: the shift loses no bit.
 use native.Mathlib.Nat.{one-mul}
 use native.Mathlib.Omega.{arith}
 use mathlib.Core.Path.{_∙_}

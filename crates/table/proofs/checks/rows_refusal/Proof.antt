@@ -1,4 +1,4 @@
--- `table::rows_refusal` meets its contract: the first of the three checks that refuses, once the form has passed.
+-- `table::checks::rows_refusal` meets its contract: the first of the three checks that refuses, once the form has passed.
 use borrow.Author.Needs.{needs}
 use Rattle.theory.specs.Table.{tableRefusal}
 use Rattle.table.proofs.FormLaws.{form-passed}

@@ -1,4 +1,4 @@
--- `table::run_refusal` meets its contract. The loop's invariant: no state number that was passed is refused.
+-- `table::checks::run_refusal` meets its contract. The loop's invariant: no state number that was passed is refused.
 use Prim.Native.Nat.{_≤_, _-_}
 use mathlib.Core.Path.{_≡_, refl}
 use denote.Ref.{now}

@@ -1,4 +1,4 @@
--- `table::starts_refusal` meets its contract: the starts are a run of state numbers.
+-- `table::checks::starts_refusal` meets its contract: the starts are a run of state numbers.
 use denote.Ref.{now}
 use borrow.Author.Needs.{needs}
 use Rattle.table.proofs.FormLaws.{starts-run}

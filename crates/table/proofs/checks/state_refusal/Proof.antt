@@ -1,4 +1,4 @@
--- `table::state_refusal` meets its contract: the one test picks the number.
+-- `table::checks::state_refusal` meets its contract: the one test picks the number.
 use borrow.Author.Needs.{needs}
 use Rattle.theory.proofs.Picks.{picks}
 use Rattle.table.proofs.checks.state_refusal.Statement.{statement}

@@ -1,4 +1,4 @@
--- `table::successors_refusal` meets its contract: the successors are a run of state numbers.
+-- `table::checks::successors_refusal` meets its contract: the successors are a run of state numbers.
 use native.Mathlib.Omega.{arith}
 use denote.Ref.{now}
 use borrow.Author.Needs.{needs}

@@ -1,4 +1,4 @@
--- `table::first` meets its contract: the part is long enough.
+-- `table::rows::first` meets its contract: the part is long enough.
 use mathlib.Core.Path.{refl, sym}
 use denote.Ref.{now}
 use lib.Seq.{length-take-le}

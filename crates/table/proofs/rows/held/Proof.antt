@@ -1,4 +1,4 @@
--- `table::held` meets its contract: a state's two bytes end where the table ends, or before.
+-- `table::rows::held` meets its contract: a state's two bytes end where the table ends, or before.
 use borrow.Author.Needs.{needs}
 use Rattle.table.proofs.rows.held.Statement.{statement}
 use Rattle.table.proofs.rows.held.Tie as tie

@@ -1,4 +1,4 @@
--- `table::row` meets its contract: the first bytes of the rest of the table are those of the table from there.
+-- `table::rows::row` meets its contract: the first bytes of the rest of the table are those of the table from there.
 use Prim.Native.Nat.{_+_, _*_, _-_}
 use native.Mathlib.Omega.{arith}
 use mathlib.Core.Path.{_∙_}

@@ -1,4 +1,4 @@
--- `table::successors` meets its contract: a state's row ends where the successors end, or before.
+-- `table::rows::successors` meets its contract: a state's row ends where the successors end, or before.
 use native.Mathlib.Omega.{arith}
 use borrow.Author.Needs.{needs}
 use Rattle.table.proofs.RowLaws.{row-fits}

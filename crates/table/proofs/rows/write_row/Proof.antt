@@ -1,4 +1,4 @@
--- `table::write_row` meets its contract. The loop's invariant: the output is the one lent with the row's first bytes put in.
+-- `table::rows::write_row` meets its contract. The loop's invariant: the output is the one lent with the row's first bytes put in.
 use Prim.Native.Nat.{_≤_, _-_}
 use native.Mathlib.Omega.{arith}
 use native.Mathlib.Numerals.{add-one}

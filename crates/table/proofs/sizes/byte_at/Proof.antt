@@ -1,4 +1,4 @@
--- `table::byte_at` meets its contract: past the end it is 0.
+-- `table::sizes::byte_at` meets its contract: past the end it is 0.
 use native.Mathlib.Omega.{arith}
 use mathlib.Core.Path.{sym}
 use denote.Ref.{now}

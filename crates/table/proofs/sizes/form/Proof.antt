@@ -1,4 +1,4 @@
--- `table::form` meets its contract: past the first check the sizes and the number of bytes decide.
+-- `table::sizes::form` meets its contract: past the first check the sizes and the number of bytes decide.
 use denote.Ref.{now}
 use borrow.Author.Needs.{needs}
 use Rattle.theory.specs.Table.{formRefusal}

@@ -1,4 +1,4 @@
--- `table::held_base` meets its contract, by those of the sizes.
+-- `table::sizes::held_base` meets its contract, by those of the sizes.
 use borrow.Author.Needs.{needs}
 use Rattle.table.proofs.sizes.held_base.Statement.{statement}
 use Rattle.table.proofs.sizes.held_base.Tie as tie

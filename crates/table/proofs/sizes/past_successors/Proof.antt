@@ -1,4 +1,4 @@
--- `table::past_successors` meets its contract: the product of two bytes fits.
+-- `table::sizes::past_successors` meets its contract: the product of two bytes fits.
 use native.Mathlib.Omega.{arith}
 use mathlib.Core.Path.{refl}
 use borrow.Author.Needs.{needs}

@@ -1,4 +1,4 @@
--- `table::sizes_refusal` meets its contract: at each `return` the tests that led there pick the number.
+-- `table::sizes::sizes_refusal` meets its contract: at each `return` the tests that led there pick the number.
 use borrow.Author.Needs.{needs}
 use Rattle.table.specs.Form.{sizesRefusal}
 use Rattle.theory.proofs.Picks.{picks}

@@ -4,17 +4,17 @@ use mathlib.Core.Path.{_≡_, refl, sym, _∙_, ap, ap₂, subst}
 use mathlib.Core.Bool.{true, false≢true}
 use mathlib.Core.List.{[], List·Memᴰ}
 use lib.ListN.{length, getD}
 use Rattle.theory.specs.Tests.{Says, every}
 use Rattle.theory.specs.Orders.{interesting, After}
 use Rattle.theory.specs.Construction.{nodes, statesWithin, wantedColumns, kept, steps, keptSteps, startState, takeSet, holdsIn, maxNodes}
 use Rattle.theory.specs.Query.{Bytes, readQuery, sizesRefusal, bodyRefusal, orderRefusal, dependencyRefusal, itemRefusal, twinRefusal, queryRefusal}
 use Rattle.theory.specs.Table.{tableOf, writeTable}
 use Rattle.theory.specs.Build.{Outcome, refused, built, construct, outcome}
-use Rattle.theory.specs.Trials.{Trial, Expectation, table, refusal, state-count, after, same-state, sameOutcome, outcomeOf, stateAfter, comesOut, passes, Meets, trials}
+use Rattle.trials.specs.Trials.{Trial, Expectation, table, refusal, state-count, after, same-state, sameOutcome, outcomeOf, stateAfter, comesOut, passes, Meets, trials}
 use Rattle.theory.proofs.Reflect.{says-true, says-every, says-by, says-and, says-eqb, says-ltb, says-leb, decides-list, decides-number, decides-marks, decides-bool}
 use Rattle.theory.proofs.ListLaws.{member-getD}
 use Rattle.theory.proofs.NodeLaws.{nodes-exactly}
 use Rattle.theory.proofs.StateLaws.{says-held, states-distinct, states-exactly}
 
 -- the computed test of all trials
 all-pass : every passes trials ≡ true

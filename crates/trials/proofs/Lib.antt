@@ -1,0 +1,2 @@
+-- The theorem of the starred trials.
+pub mod TrialsTheorem
