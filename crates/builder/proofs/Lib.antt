@@ -6,3 +6,4 @@ pub mod WriteLaws
 pub mod TableParts
 pub mod FinishLaws
 pub mod WholeLaws
+pub mod AnswerLaws

@@ -1,2 +1,2 @@
 pub mod CodeLaws
-pub mod BuildCodes
+pub mod AnswerCodes

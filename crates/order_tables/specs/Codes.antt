@@ -8,6 +8,8 @@ use Rattle.theory.specs.Orders.{Order, Rule, fix, equal, Dependency}
 use Rattle.theory.specs.Refusals.{passed}
 use Rattle.theory.specs.Query.{Bytes}
 use Rattle.theory.specs.Build.{Outcome, refused, built}
+use Rattle.theory.specs.Listing.{listing}
+use Rattle.query_listing.specs.Listed.{answerOf, listRefusal}
 use Rattle.theory.specs.Table.{Answer, setsIn, successorsBase, rowRefusal}
 
 -- A refusal's number times 65,536.
@@ -22,6 +24,10 @@ answerCode a = a .refusal * 65536 + a .value
 abbrev pub buildCode : Outcome → ℕ
 buildCode (refused n) = refusedCode n
 buildCode (built t n) = length t
+
+-- A listing's: its length, or the refusal.
+abbrev pub listCode : Bytes → ℕ → ℕ → ℕ
+listCode query scratch text = let a = answerOf (listing query) (listRefusal query scratch text) in a .refusal * 65536 + a .length
 
 -- A row's answer: its offset in the table, or the refusal.
 unfoldable pub rowCode : Bytes → ℕ → ℕ

@@ -1,5 +1,4 @@
-// The functions for C and Rust. A table lookup returns its refusal's number times 65,536 plus a value, which is 0 on refusal.
-use builder::construct::Built;
+// The functions for C and Rust. A build, a listing, a table check and a lookup return the refusal's number times 65,536 plus a value, which is 0 on refusal.
 use lookup::Asked;
 use lookup::Mark;
 use lookup::Moved;
@@ -16,7 +15,10 @@ ghost use Rattle.theory.specs.Build.{outcome, outputAfter, scratchAfter};
 ghost use lib.ListN.{length};
 ghost use Rattle.orders.specs.Orders.{orderOf, ruleIs};
 ghost use Rattle.lookup.specs.Answers.{answerOf, heldOf};
-ghost use Rattle.order_tables.specs.Codes.{refusedCode, answerCode, buildCode, rowCode, columnsCode, orderCode, kindCode, ruleColumns, dependencyCode};
+ghost use Rattle.theory.specs.Listing.{listing};
+ghost use Rattle.query_listing.specs.Listed.{listRefusal, textAfter};
+ghost use Rattle.query_listing.specs.Listed as listed;
+ghost use Rattle.order_tables.specs.Codes.{refusedCode, answerCode, buildCode, listCode, rowCode, columnsCode, orderCode, kindCode, ruleColumns, dependencyCode};
 
 fn refused(n: u8) -> u32
     ensures { λ r. ⌜ r ≡ refusedCode n ⌝ }
@@ -43,11 +45,12 @@ fn asked(answer: Asked) -> u32
     }
 }
 
-fn built(answer: Built) -> u32
-    requires { ⌜ answer .length ≤ 1292 ⌝ }
-    ensures { λ r. ⌜ r ≡ answer .refusal * 65536 + answer .length ⌝ }
+// A refusal and a value as one number.
+fn coded(refusal: u8, value: usize) -> u32
+    requires { ⌜ value < 65536 ⌝ }
+    ensures { λ r. ⌜ r ≡ refusal * 65536 + value ⌝ }
 {
-    answer.refusal as u32 * 65536 + answer.length as u32
+    refusal as u32 * 65536 + value as u32
 }
 
 // Build a query's table: its length.
@@ -57,7 +60,19 @@ pub extern "C" fn order_table_build(query: &[u8], scratch: &mut [u8], output: &m
     ensures { λ r. ⌜ now (output .exit) ≡ outputAfter (now (query .entry)) (length (now (scratch .entry))) (now (output .entry)) ⌝ }
     ensures { λ r. ⌜ now (scratch .exit) ≡ scratchAfter (now (query .entry)) (now (scratch .entry)) ⌝ }
 {
-    built(builder::build(query, scratch, output))
+    let built = builder::build(query, scratch, output);
+    coded(built.refusal, built.length)
+}
+
+// List a query: the listing's length.
+#[no_mangle]
+pub extern "C" fn order_table_list(query: &[u8], scratch: &mut [u8], text: &mut [u8]) -> u32
+    ensures { λ r. ⌜ r ≡ listCode (now (query .entry)) (length (now (scratch .entry))) (length (now (text .entry))) ⌝ }
+    ensures { λ r. ⌜ now (text .exit) ≡ textAfter (listing (now (query .entry))) (listRefusal (now (query .entry)) (length (now (scratch .entry))) (length (now (text .entry)))) (now (text .entry)) ⌝ }
+    ensures { λ r. ⌜ now (scratch .exit) ≡ listed.scratchAfter (now (scratch .entry)) ⌝ }
+{
+    let listed = query_listing::list(query, scratch, text);
+    coded(listed.refusal, listed.length)
 }
 
 // The table check.

@@ -1,35 +1,19 @@
 -- From a build's answer to its outcome, and demand 3 of the lookups answered on the table that it wrote.
 use Prim.Native.Nat.{ℕ, _≤_}
 use native.Mathlib.Omega.{arith}
-use mathlib.Core.Path.{_≡_, refl, ap}
+use mathlib.Core.Path.{_≡_, refl, sym, ap, subst}
 use mathlib.Core.Logic.{_≢_}
 use lib.ListN.{length, take, drop, length-append}
 use lib.Seq.{take-append-seam}
-use Rattle.theory.specs.Refusals.{passed, orderings-refused, states-refused, space-refused}
+use Rattle.theory.specs.Refusals.{passed}
 use Rattle.theory.specs.Query.{Bytes}
-use Rattle.theory.specs.Build.{Outcome, refused, built, outcome, written, outputAfter, Means, query-refused, scratch-short, many-orderings, many-states, output-short, table-built}
-use Rattle.theory.proofs.BuildLaws.{outcome-means}
+use Rattle.theory.specs.Build.{Outcome, refused, built, outcome, written, outputAfter}
 use Rattle.theory.proofs.DemandThree.{demand-three}
 use Rattle.builder.specs.declared.construct.Built.{Built}
 use Rattle.builder.specs.Built.{answerOf}
+use Rattle.builder.proofs.AnswerLaws.{granted}
 use Rattle.replay.specs.Replay.{replayed, lookupsAfter, Modelled}
 use Rattle.replay.proofs.ReplayLaws.{answers-run}
-
--- An outcome whose refusal, if it is one, has a number of the list.
-data Numbered : Outcome → Type 0 where
-  numbered : {n : ℕ} → n ≢ passed → Numbered (refused n)
-  table : {t : Bytes} {n : ℕ} → Numbered (built t n)
-
-outcome-numbered : (query : Bytes) (scratch output : ℕ) → Numbered (outcome query scratch output)
-outcome-numbered query scratch output = go (outcome-means query scratch output)
-  where
-    go : {o : Outcome} → Means query scratch output o → Numbered o
-    go (query-refused h) = numbered h
-    go (scratch-short _ _) = numbered {n = space-refused} (λ e. omega arith)
-    go (many-orderings _ _ _) = numbered {n = orderings-refused} (λ e. omega arith)
-    go (many-states _ _ _ _) = numbered {n = states-refused} (λ e. omega arith)
-    go (output-short _ _ _ _ _) = numbered {n = space-refused} (λ e. omega arith)
-    go (table-built _ _ _ _ _) = table
 
 -- A refused build keeps the lookups' bytes.
 kept : (o : Outcome) (lookups : Bytes) → answerOf o .refusal ≢ passed → lookups ≡ lookupsAfter o lookups
@@ -41,13 +25,13 @@ record TableFirst (o : Outcome) (output : Bytes) : Type 0 where
   pub room : answerOf o .length ≤ length (written o output)
   pub replays : (lookups : Bytes) → replayed (take (answerOf o .length) (written o output)) 0 lookups ≡ lookupsAfter o lookups
 
-table-first : {o : Outcome} (output : Bytes) → Numbered o → answerOf o .refusal ≡ passed → TableFirst o output
-table-first output (numbered h) e = absurd (h e)
-table-first output (table {t} {n}) e =
-    record {
+table-first : {o : Outcome} (output : Bytes) → (t : Bytes) × (n : ℕ) × (o ≡ built t n) → TableFirst o output
+table-first output (t, n, e) =
+    subst (λ o. TableFirst o output) (sym e)
+    (record {
       room = rw length-append (omega arith);
       replays = λ lookups. ap (λ u. replayed u 0 lookups) (take-append-seam t (drop (length t) output));
-    }
+    })
 
 -- Demand 3: the bytes handed back hold the plain model's answers.
 pub modelled : (query : Bytes) (scratch output : ℕ) (before : Bytes) {after : Bytes} → after ≡ lookupsAfter (outcome query scratch output) before → Modelled query scratch output before after
@@ -63,7 +47,7 @@ module _ (query : Bytes) (scratch : ℕ) (output : Bytes) {r : Built} (e : r ≡
 
   module _ {after : Bytes} (w : after ≡ outputAfter query scratch output) (h : r .refusal ≡ passed) where
     first : TableFirst (outcome query scratch (length output)) output
-    first = table-first output (outcome-numbered query scratch (length output)) (rw e at h)
+    first = table-first output (granted query scratch (length output) (rw e at h))
 
     pub table-room : r .length ≤ length after
     unfolding outputAfter

@@ -1,0 +1,37 @@
+-- The numbers that stand for the answers of a build and of a listing: their values are far below 65,536.
+use Prim.Native.Nat.{ℕ, _+_, _*_, _<_}
+use native.Mathlib.Omega.{arith}
+use mathlib.Core.Bool.{Bool, true, false}
+use lib.Dec.{eqb}
+use lib.ListN.{length}
+use Rattle.theory.specs.Tests.{pick}
+use Rattle.theory.specs.Refusals.{passed}
+use mathlib.Core.Path.{_≡_, refl}
+use Rattle.theory.specs.Query.{Bytes}
+use Rattle.theory.specs.Build.{Outcome, refused, built, outcome}
+use Rattle.theory.proofs.DemandThree.{built-facts}
+use Rattle.table.proofs.FormLaws.{formed-short}
+use Rattle.builder.specs.Built.{answerOf}
+use Rattle.builder.proofs.AnswerLaws.{built-formed}
+use Rattle.theory.specs.Listing.{listing}
+use Rattle.query_listing.specs.Listed as listed
+use Rattle.query_listing.proofs.LengthLaws.{listing-short}
+use Rattle.order_tables.specs.Codes.{buildCode}
+
+pub build-code : (o : Outcome) → answerOf o .refusal * 65536 + answerOf o .length ≡ buildCode o
+build-code (refused n) = omega arith
+build-code (built t n) = omega arith
+
+pub build-short : (query : Bytes) (scratch output : ℕ) → answerOf (outcome query scratch output) .length < 65536
+build-short query scratch output = go (outcome query scratch output) refl
+  where
+    go : (o : Outcome) → outcome query scratch output ≡ o → answerOf o .length < 65536
+    go (refused n) e = omega arith
+    go (built t n) e = omega (arith, formed-short (built-formed (built-facts query scratch output t n e)))
+
+pub list-short : (query : Bytes) (refusal : ℕ) → listed.answerOf (listing query) refusal .length < 65536
+list-short query refusal = go (eqb refusal passed)
+  where
+    go : (b : Bool) → pick b (length (listing query)) 0 < 65536
+    go true = omega (arith, listing-short query)
+    go false = omega arith

@@ -1,0 +1,38 @@
+-- What is answered, and what stands in the text, where it takes the listing and where it does not.
+use Prim.Native.Nat.{_≤_, _<_}
+use native.Mathlib.Nat.{zero-add}
+use mathlib.Core.Path.{_≡_, _∙_}
+use mathlib.Core.List.{[]}
+use lib.ListN.{length}
+use lib.Seq.{paste, take-length}
+use borrow.Author.Tests.{lt-ltb, le-ltb}
+use Rattle.theory.specs.Refusals.{space-refused}
+use Rattle.theory.specs.Query.{Bytes}
+use Rattle.theory.specs.Build.{scratchLength, zeroed}
+use Rattle.theory.specs.Listing.{listing}
+use Rattle.query_listing.specs.Listed.{listRefusal, answerOf, textAfter, scratchAfter, Handed}
+use Rattle.query_listing.specs.declared.Listed.{Listed}
+
+module _ (l text : Bytes) where
+  pub text-short : length text < length l → {r : Listed} → r ≡ answerOf [] space-refused → Handed l text text r
+  unfolding textAfter
+  text-short h a = record { answer = rw (lt-ltb (length text) (length l) h) a; text = rw (lt-ltb (length text) (length l) h) }
+
+  pub text-whole : length l ≤ length text → {after : Bytes} → after ≡ paste text 0 l (length l) → Handed l text after (record { refusal = 0; length = length l })
+  unfolding textAfter
+  text-whole h e = record { answer = rw (le-ltb (length text) (length l) h); text = rw (le-ltb (length text) (length l) h) (e ∙ rw (take-length l, zero-add)) }
+
+-- the same of the whole call: 9 for scratch comes first
+module _ (query scratch text : Bytes) where
+  abbrev pub Whole : (scratch' text' : Bytes) → Listed → Type 0
+  Whole scratch' text' r =
+      (r ≡ answerOf (listing query) (listRefusal query (length scratch) (length text)))
+      × ((text' ≡ textAfter (listing query) (listRefusal query (length scratch) (length text)) text) × (scratch' ≡ scratchAfter scratch))
+
+  pub scratch-short : length scratch < scratchLength → {r : Listed} → r ≡ answerOf [] space-refused → Whole scratch text r
+  unfolding listRefusal textAfter scratchAfter
+  scratch-short h a = let e = lt-ltb (length scratch) scratchLength h in (rw e a, (rw e, rw e))
+
+  pub scratch-whole : {scratch' text' : Bytes} {r : Listed} → scratchLength ≤ length scratch → Handed (listing query) text text' r → scratch' ≡ zeroed scratchLength scratch → Whole scratch' text' r
+  unfolding listRefusal scratchAfter
+  scratch-whole h d z = let e = le-ltb (length scratch) scratchLength h in (rw e (d .answer), (rw e (d .text), rw e z))
