@@ -1,7 +1,10 @@
 //! Queries and tables to compare on: sizes at and past their limits, right
 //! totals around random contents, and damaged bytes.
 
+use reference::query::Order;
 use reference::random::Random;
+use reference::samples::{self, Shape};
+use reference::{Dependency, Query};
 
 /// Sizes of a query at and past their limits.
 pub const QUERY_EDGES: [&[u8]; 5] = [
@@ -69,6 +72,108 @@ pub fn query_of_sizes(random: &mut Random, sizes: [u8; 5]) -> Vec<u8> {
         }));
     }
     [sizes.to_vec(), heads, fields].concat()
+}
+
+/// A query of any kind: small or large, read or refused.
+pub fn any_query(random: &mut Random) -> Vec<u8> {
+    match random.below(10) {
+        0..=3 => samples::query(random, Shape::SMALL).write(),
+        4 => samples::query(random, Shape::FULL).write(),
+        5 => query_of_many_states(random).write(),
+        6 => {
+            let dependencies = random.between(0, 16);
+            largest_query(random, dependencies).write()
+        }
+        7 => {
+            let query = samples::query(random, Shape::FULL).write();
+            damaged(random, &query)
+        }
+        8 => with_equal_orders(random).write(),
+        _ => {
+            let sizes = [(1, 12), (1, 3), (0, 2), (0, 8), (0, 3)];
+            let sizes = sizes.map(|(least, most)| random.between(least, most) as u8);
+            query_of_sizes(random, sizes)
+        }
+    }
+}
+
+/// A query of the largest sizes, but for the dependencies, of which it has so
+/// many. Its orders are long.
+pub fn largest_query(random: &mut Random, dependencies: usize) -> Query {
+    let mut orders: Vec<Order> = Vec::new();
+    while orders.len() < 16 {
+        let order = some_columns(random, 12, 2, 4);
+        if !orders.contains(&order) {
+            orders.push(order);
+        }
+    }
+    let tested = orders.split_off(8);
+    Query {
+        columns: 12,
+        produced: orders,
+        tested,
+        sets: 8,
+        dependencies: (0..dependencies)
+            .map(|_| any_dependency(random, 12))
+            .collect(),
+    }
+}
+
+/// A query with many states: most sets fix a column of their own, so that nearly
+/// every choice of sets is a state.
+pub fn query_of_many_states(random: &mut Random) -> Query {
+    let sets = random.between(5, 8) as u8;
+    let mut dependencies: Vec<Dependency> = (0..sets)
+        .map(|set| Dependency::fix(set, &[0], set + 1))
+        .collect();
+    for _ in 0..random.below(3) {
+        let mut dependency = any_dependency(random, 12);
+        dependency.set %= sets;
+        dependencies[random.below(sets.into())] = dependency;
+    }
+    let mut produced = vec![vec![0]];
+    if random.one_in(2) {
+        produced.push(some_columns(random, 12, 2, 3));
+    }
+    Query {
+        columns: 12,
+        produced,
+        tested: (1..=sets).map(|column| vec![0, column, 9]).collect(),
+        sets,
+        dependencies,
+    }
+}
+
+/// A dependency of one of eight sets on some of so many columns, at least 4.
+pub fn any_dependency(random: &mut Random, columns: u8) -> Dependency {
+    let set = random.below(8) as u8;
+    let columns = some_columns(random, columns, 1, 4);
+    match columns[..] {
+        [one, other] if random.one_in(2) => Dependency::equal(set, one, other),
+        _ => Dependency::fix(set, &columns[1..], columns[0]),
+    }
+}
+
+/// Some different ones of so many columns, in a random sequence.
+pub fn some_columns(random: &mut Random, columns: u8, least: usize, most: usize) -> Vec<u8> {
+    let mut columns: Vec<u8> = (0..columns).collect();
+    random.shuffle(&mut columns);
+    columns.truncate(random.between(least, most));
+    columns
+}
+
+/// A query that has one interesting order twice.
+pub fn with_equal_orders(random: &mut Random) -> Query {
+    let mut query = samples::query(random, Shape::FULL);
+    let interesting: Vec<_> = query.interesting().cloned().collect();
+    let again = interesting[random.below(interesting.len())].clone();
+    let orders = match random.below(2) {
+        0 => &mut query.produced,
+        _ => &mut query.tested,
+    };
+    orders.truncate(7);
+    orders.insert(random.below(orders.len() + 1), again);
+    query
 }
 
 /// A table of the total that its sizes imply, whatever they are. Its starts,

@@ -27,13 +27,38 @@ impl Lent {
 
     /// The bytes, without the guards.
     pub fn bytes(&self) -> &[u8] {
-        &self.memory[GUARD..self.memory.len() - GUARD]
+        inner(&self.memory)
+    }
+
+    /// The bytes, to be written to.
+    pub fn bytes_mut(&mut self) -> &mut [u8] {
+        let end = self.memory.len() - GUARD;
+        &mut self.memory[GUARD..end]
+    }
+
+    /// The bytes as they were at first.
+    pub fn bytes_before(&self) -> &[u8] {
+        inner(&self.before)
     }
 
     /// Whether bytes and guards are as they were at first.
     pub fn is_unchanged(&self) -> bool {
+        self.is_now(self.bytes_before())
+    }
+
+    /// Whether the bytes are these now, and the guards as they were at first.
+    pub fn is_now(&self, bytes: &[u8]) -> bool {
         // The compiler may take lent bytes for unchanged, so it must not know
         // these.
-        *black_box(&self.memory) == self.before
+        let memory = black_box(&self.memory);
+        let end = memory.len() - GUARD;
+        inner(memory) == bytes
+            && memory[..GUARD] == self.before[..GUARD]
+            && memory[end..] == self.before[end..]
     }
+}
+
+/// The bytes between the guards.
+fn inner(memory: &[u8]) -> &[u8] {
+    &memory[GUARD..memory.len() - GUARD]
 }

@@ -14,6 +14,11 @@ impl Tally {
         self.by_refusal[(code >> 16) as usize] += 1;
     }
 
+    /// How many answers were compared.
+    pub fn all(&self) -> usize {
+        self.by_refusal.iter().sum()
+    }
+
     /// How many answers had a refusal, by its number; 0 for those that had none.
     pub fn with(&self, refusal: u8) -> usize {
         self.by_refusal[usize::from(refusal)]

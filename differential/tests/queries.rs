@@ -1,7 +1,9 @@
 //! Reading queries: the proved library and the second implementation refuse the
 //! same bytes with the same numbers, and read the same from the others.
 
-use differential::inputs::{any_bytes, choices, damaged, query_of_sizes, QUERY_EDGES};
+use differential::inputs::{
+    any_bytes, choices, damaged, query_of_sizes, with_equal_orders, QUERY_EDGES,
+};
 use differential::lent::Lent;
 use differential::tally::Tally;
 use differential::{codes, proved};
@@ -117,15 +119,7 @@ fn damaged_queries() {
 fn queries_with_equal_orders() {
     let mut comparison = Comparison::new(3);
     for _ in 0..2000 {
-        let mut query = samples::query(&mut comparison.random, Shape::FULL);
-        let interesting: Vec<_> = query.interesting().cloned().collect();
-        let again = interesting[comparison.random.below(interesting.len())].clone();
-        let orders = match comparison.random.below(2) {
-            0 => &mut query.produced,
-            _ => &mut query.tested,
-        };
-        orders.truncate(7);
-        orders.insert(comparison.random.below(orders.len() + 1), again);
+        let query = with_equal_orders(&mut comparison.random);
         comparison.compare(&query.write());
     }
     comparison.report("queries with equal orders");

@@ -1,4 +1,6 @@
-//! The proved library's functions. A slice passes as a pointer and a length.
+//! The proved library's functions as they are: each returns a refusal's number
+//! times 65,536 plus a value, or the item it has read. A slice passes as a
+//! pointer and a length.
 
 #![allow(unsafe_code)]
 
@@ -6,15 +8,32 @@ extern "C" {
     fn order_query_check(query: *const u8, length: usize) -> u32;
     fn order_query_order(query: *const u8, length: usize, i: u8) -> u64;
     fn order_query_dependency(query: *const u8, length: usize, i: u8) -> u64;
+    fn order_table_build(
+        query: *const u8,
+        query_length: usize,
+        scratch: *mut u8,
+        scratch_length: usize,
+        output: *mut u8,
+        output_length: usize,
+    ) -> u32;
     fn order_table_check(table: *const u8, length: usize) -> u32;
     fn order_table_enter(table: *const u8, length: usize, produced: u8) -> u32;
     fn order_table_take(table: *const u8, length: usize, state: u8, set: u8) -> u32;
     fn order_table_ask(table: *const u8, length: usize, state: u8, order: u8) -> u32;
     fn order_table_row(table: *const u8, length: usize, state: u8) -> u32;
+    fn order_table_list(
+        query: *const u8,
+        query_length: usize,
+        scratch: *mut u8,
+        scratch_length: usize,
+        text: *mut u8,
+        text_length: usize,
+    ) -> u32;
 }
 
-// SAFETY, of every call below: the pointer and the length are those of one
-// slice, which is lent for the whole call, and the function only reads it.
+// SAFETY, of every call below: each pointer and length are those of one slice,
+// which is lent for the whole call. The function only reads what is lent as
+// `&[u8]`. Slices lent as `&mut [u8]` overlap no other.
 
 /// The query's own checks: the refusal.
 pub fn query_check(query: &[u8]) -> u32 {
@@ -29,6 +48,20 @@ pub fn query_order(query: &[u8], i: u8) -> u64 {
 /// Dependency i of a query.
 pub fn query_dependency(query: &[u8], i: u8) -> u64 {
     unsafe { order_query_dependency(query.as_ptr(), query.len(), i) }
+}
+
+/// Building a query's table into the output's first bytes: the table's length.
+pub fn table_build(query: &[u8], scratch: &mut [u8], output: &mut [u8]) -> u32 {
+    unsafe {
+        order_table_build(
+            query.as_ptr(),
+            query.len(),
+            scratch.as_mut_ptr(),
+            scratch.len(),
+            output.as_mut_ptr(),
+            output.len(),
+        )
+    }
 }
 
 /// The table check: the refusal.
@@ -54,4 +87,18 @@ pub fn table_ask(table: &[u8], state: u8, order: u8) -> u32 {
 /// A state's successor row: its offset in the table.
 pub fn table_row(table: &[u8], state: u8) -> u32 {
     unsafe { order_table_row(table.as_ptr(), table.len(), state) }
+}
+
+/// Listing a query into the text's first bytes: the listing's length.
+pub fn table_list(query: &[u8], scratch: &mut [u8], text: &mut [u8]) -> u32 {
+    unsafe {
+        order_table_list(
+            query.as_ptr(),
+            query.len(),
+            scratch.as_mut_ptr(),
+            scratch.len(),
+            text.as_mut_ptr(),
+            text.len(),
+        )
+    }
 }

@@ -1,0 +1,249 @@
+//! Prints, as Markdown: nanoseconds per enter, take and ask beside hand-written
+//! C, per ask beside a reduction, the times of builds beside the second
+//! implementation, and the figures of document 000, section 6.2.
+
+use std::hint::black_box;
+
+use benchmarks::by_hand;
+use benchmarks::reduction::PlanNode;
+use benchmarks::report::{self, number};
+use benchmarks::timing::{take_turns, Builds};
+use differential::proved;
+use differential::trials::{self, Trial};
+use reference::construction::Construction;
+use reference::random::Random;
+use reference::{table, Query};
+
+/// How often two ways to look up take turns: long enough that other work of the
+/// machine passes.
+const TURNS: usize = 5000;
+/// How often two builds take turns, and how often the slowest ones do.
+const BUILD_TURNS: usize = 500;
+const SLOW_BUILD_TURNS: usize = 20;
+/// Lookups per turn.
+const LOOKUPS: usize = 4096;
+/// The queries whose tables are looked up: few, some and the most states.
+const LOOKED_UP: [&str; 3] = ["listing_example", "tpcr_query_8", "seven_sets"];
+/// The queries that are asked by reduction too. In the last two a table and a
+/// reduction differ.
+const REDUCED: [&str; 5] = [
+    "listing_example",
+    "tpcr_query_8",
+    "seven_sets",
+    "reduction_not_confluent",
+    "set_not_remembered",
+];
+/// The queries that are built, from the smallest to the slowest.
+const BUILT: [&str; 6] = [
+    "constant",
+    "listing_example",
+    "tpcr_query_8",
+    "six_constants",
+    "seven_sets",
+    "slowest_build",
+];
+
+fn main() {
+    println!("# Benchmarks");
+    println!();
+    report::setting();
+    lookups();
+    reduction();
+    builds();
+    section_6_2();
+}
+
+/// A trial of the repository, by its name.
+fn trial(name: &str) -> Trial {
+    let mut all = trials::all().into_iter();
+    let found = all.find(|(other, _)| other == name);
+    found
+        .unwrap_or_else(|| panic!("the trial {name} is missing"))
+        .1
+}
+
+/// The table of a query, built by the proved library.
+fn built(query: &[u8]) -> Vec<u8> {
+    let mut builds = Builds::new();
+    let length = builds.proved(query);
+    builds.table(length).to_vec()
+}
+
+/// Random pairs of numbers below two limits.
+fn pairs(one: u8, other: u8) -> Vec<(u8, u8)> {
+    let mut random = Random::new(1);
+    (0..LOOKUPS)
+        .map(|_| [one, other].map(|limit| random.below(limit.into()) as u8))
+        .map(|[one, other]| (one, other))
+        .collect()
+}
+
+/// Nanoseconds per lookup of two ways to look up a table, on the same handles.
+fn lookup_times(
+    table: &[u8],
+    handles: &[(u8, u8)],
+    one: impl Fn(&[u8], u8, u8) -> u32,
+    other: impl Fn(&[u8], u8, u8) -> u32,
+) -> [f64; 2] {
+    let mut one_way = || {
+        for &(a, b) in handles {
+            black_box(one(black_box(table), a, b));
+        }
+    };
+    let mut other_way = || {
+        for &(a, b) in handles {
+            black_box(other(black_box(table), a, b));
+        }
+    };
+    take_turns(TURNS, handles.len(), [&mut one_way, &mut other_way])
+}
+
+/// Lookups of the proved library beside the same in C.
+fn lookups() {
+    println!("## Lookups, ns");
+    println!();
+    let mut rows = Vec::new();
+    for name in LOOKED_UP {
+        let table = built(&trial(name).query);
+        let &[states, produced, tested, sets] = table.first_chunk().expect("a table has sizes");
+        let enter = lookup_times(
+            &table,
+            &pairs(produced, 1),
+            |table, order, _| proved::table_enter(table, order),
+            |table, order, _| by_hand::enter(table, order),
+        );
+        let by_set = pairs(states, sets);
+        let take = lookup_times(&table, &by_set, proved::table_take, by_hand::take);
+        let by_order = pairs(states, produced + tested);
+        let ask = lookup_times(&table, &by_order, proved::table_ask, by_hand::ask);
+        for (lookup, [proved, by_hand]) in [("enter", enter), ("take", take), ("ask", ask)] {
+            rows.push([
+                format!("{lookup}, table of {} bytes", table.len()),
+                number(proved),
+                number(by_hand),
+                number(proved / by_hand),
+            ]);
+        }
+    }
+    report::table(["Lookup", "Proved", "C by hand", "Ratio"], &rows);
+}
+
+/// One ask of a plan: by its state, and by its produced order and sets.
+struct Ask {
+    state: u8,
+    node: PlanNode,
+    handle: u8,
+    order: Vec<u8>,
+}
+
+/// Asks of random plans that take up to three sets.
+fn asks(query: &Query, table: &[u8]) -> Vec<Ask> {
+    let mut random = Random::new(2);
+    let orders: Vec<&Vec<u8>> = query.interesting().collect();
+    (0..LOOKUPS)
+        .map(|_| {
+            let produced = random.below(query.produced.len());
+            let sets: Vec<u8> = (0..random.below(4))
+                .map(|_| random.below(query.sets.into()) as u8)
+                .collect();
+            let state = table::follow(table, produced as u8, &sets);
+            let mut node = PlanNode::new(&query.produced[produced]);
+            sets.iter().for_each(|&set| node.take(query, set));
+            let handle = random.below(orders.len());
+            Ask {
+                state: state.expect("the table is of this query"),
+                node,
+                handle: handle as u8,
+                order: orders[handle].clone(),
+            }
+        })
+        .collect()
+}
+
+/// Asks of the proved library beside those of a reduction.
+fn reduction() {
+    println!("## Asks by a table and by reduction, ns");
+    println!();
+    let mut rows = Vec::new();
+    for name in REDUCED {
+        let query = trial(name).query;
+        let table = built(&query);
+        let query = Query::read(&query).expect("the trial's query is read");
+        let asks = asks(&query, &table);
+        let by_table = |ask: &Ask| proved::table_ask(black_box(&table), ask.state, ask.handle);
+        let by_reduction = |ask: &Ask| u32::from(black_box(&ask.node).ask(&ask.order));
+        let agreed = asks.iter().filter(|ask| by_table(ask) == by_reduction(ask));
+        let agreed = agreed.count();
+        let mut one_way = || {
+            for ask in &asks {
+                black_box(by_table(ask));
+            }
+        };
+        let mut other_way = || {
+            for ask in &asks {
+                black_box(by_reduction(ask));
+            }
+        };
+        let [proved, reduction] = take_turns(TURNS, LOOKUPS, [&mut one_way, &mut other_way]);
+        rows.push([
+            format!("{name}, {} dependencies", query.dependencies.len()),
+            number(proved),
+            number(reduction),
+            number(reduction / proved),
+            format!("{agreed} of {LOOKUPS}"),
+        ]);
+    }
+    report::table(
+        ["Query", "Proved", "Reduction", "Ratio", "Same answer"],
+        &rows,
+    );
+}
+
+/// Builds of the proved library beside those of the second implementation.
+fn builds() {
+    println!("## Builds, µs");
+    println!();
+    let mut rows = Vec::new();
+    for name in BUILT {
+        let bytes = trial(name).query;
+        let query = Query::read(&bytes).expect("the trial's query is read");
+        let construction = Construction::of(&query).expect("the trial's query has a table");
+        let turns = match name {
+            "slowest_build" => SLOW_BUILD_TURNS,
+            _ => BUILD_TURNS,
+        };
+        let [proved, second] = Builds::new().both_times(turns, &bytes);
+        rows.push([
+            name.to_owned(),
+            construction.nodes.len().to_string(),
+            construction.states.len().to_string(),
+            number(proved / 1000.0),
+            number(second / 1000.0),
+            number(proved / second),
+        ]);
+    }
+    let head = ["Trial", "Nodes", "States", "Proved", "Second", "Ratio"];
+    report::table(head, &rows);
+}
+
+/// The figures of document 000 for query 8 of TPC-R, beside those of the query
+/// as it is cut here.
+fn section_6_2() {
+    println!("## Document 000, section 6.2");
+    println!();
+    let bytes = trial("tpcr_query_8").query;
+    let table = built(&bytes);
+    let query = Query::read(&bytes).expect("the trial's query is read");
+    let nodes = Construction::of(&query).map(|construction| construction.nodes.len());
+    let rows = [
+        ["without pruning", "376", "80", "3040"].map(str::to_owned),
+        ["with pruning", "38", "24", "912"].map(str::to_owned),
+        [
+            "here, cut to 8 produced orders and 8 sets".to_owned(),
+            nodes.expect("the trial's query has a table").to_string(),
+            table[0].to_string(),
+            table.len().to_string(),
+        ],
+    ];
+    report::table(["Query 8 of TPC-R", "Nodes", "States", "Bytes"], &rows);
+}

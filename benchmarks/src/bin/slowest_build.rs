@@ -1,0 +1,66 @@
+//! Looks for the slowest build of the proved library, for 60 seconds or as many
+//! as the first argument says, and times what it found beside the second
+//! implementation.
+
+use std::env;
+use std::time::Duration;
+
+use benchmarks::report::{self, number};
+use benchmarks::timing::Builds;
+use benchmarks::worst::Slowest;
+use reference::construction::{Construction, Limits};
+use reference::random::Random;
+use reference::Query;
+
+/// How often the builds of the slowest queries are timed.
+const TURNS: usize = 20;
+
+fn main() {
+    let seconds = env::args().nth(1).map_or(60, |seconds| {
+        seconds
+            .parse()
+            .expect("the argument is a number of seconds")
+    });
+    let slowest = Slowest::find(&mut Random::new(1), Duration::from_secs(seconds));
+    report::setting();
+    println!(
+        "{} builds in {seconds} s, and of each outcome the slowest:",
+        slowest.tried
+    );
+    println!();
+    let rows: Vec<[String; 5]> = slowest
+        .of_each_outcome()
+        .map(|slow| row(&slow.query))
+        .collect();
+    report::table(
+        [
+            "Outcome",
+            "Nodes, states",
+            "Proved, µs",
+            "Second, µs",
+            "Ratio",
+        ],
+        &rows,
+    );
+    for slow in slowest.of_each_outcome() {
+        println!("    {}", report::bytes(&slow.query.write()));
+    }
+}
+
+fn row(query: &Query) -> [String; 5] {
+    let bytes = query.write();
+    let [proved, second] = Builds::new().both_times(TURNS, &bytes);
+    let outcome = match Construction::of(query) {
+        Ok(_) => "table".to_owned(),
+        Err(refusal) => format!("refused {refusal}"),
+    };
+    let counts = Construction::within(query, Limits::COUNTING)
+        .map(|counted| format!("{}, {}", counted.nodes.len(), counted.states.len()));
+    [
+        outcome,
+        counts.unwrap_or("more than are counted".to_owned()),
+        number(proved / 1000.0),
+        number(second / 1000.0),
+        number(proved / second),
+    ]
+}

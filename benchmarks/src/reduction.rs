@@ -1,0 +1,104 @@
+//! Asking without a table, by reduction, as document 000 sketches it in section
+//! 3: a plan node has its produced order and the dependencies of the sets taken.
+//! To ask for an order, both orders are reduced: every column that a dependency
+//! settles from columns before it is removed. The order asked for is held when
+//! its reduction is a prefix of the other's.
+//!
+//! Columns that an equal joins stand for one another, so the smallest of them
+//! takes their place. The dependencies are tried in turn until none applies.
+//! This is not the answer of a table: it remembers sets, and what it finds
+//! depends on the sequence in which it tries the dependencies.
+
+use reference::query::{ColumnSet, Order};
+use reference::{Query, Rule};
+
+/// A fix as column sets.
+#[derive(Clone, Copy)]
+struct Fix {
+    left: ColumnSet,
+    right: u8,
+}
+
+/// A plan node: its produced order, and what the sets taken bring.
+#[derive(Clone)]
+pub struct PlanNode {
+    order: Order,
+    fixes: Vec<Fix>,
+    standing_for: [u8; 12],
+}
+
+impl PlanNode {
+    /// A plan node that makes a produced order, before any set.
+    pub fn new(order: &Order) -> Self {
+        Self {
+            order: order.clone(),
+            fixes: Vec::new(),
+            standing_for: std::array::from_fn(|column| column as u8),
+        }
+    }
+
+    /// Takes a set: its dependencies join those of the node.
+    pub fn take(&mut self, query: &Query, set: u8) {
+        for dependency in query.dependencies_of(set) {
+            match &dependency.rule {
+                Rule::Fix { left, right } => self.fixes.push(Fix {
+                    left: left.iter().fold(0, |columns, column| columns | 1 << column),
+                    right: *right,
+                }),
+                Rule::Equal(one, other) => {
+                    let pair = [one, other].map(|&column| self.standing_for[usize::from(column)]);
+                    let (kept, gone) = (pair[0].min(pair[1]), pair[0].max(pair[1]));
+                    for column in &mut self.standing_for {
+                        if *column == gone {
+                            *column = kept;
+                        }
+                    }
+                }
+            }
+        }
+        for fix in &mut self.fixes {
+            fix.right = self.standing_for[usize::from(fix.right)];
+            let left = (0..12).filter(|column| fix.left >> column & 1 == 1);
+            fix.left = left.fold(0, |columns, column| {
+                columns | 1 << self.standing_for[usize::from(column as u8)]
+            });
+        }
+    }
+
+    /// Whether an order is held, by reduction.
+    pub fn ask(&self, order: &[u8]) -> bool {
+        let (own, own_length) = self.reduced(&self.order);
+        let (asked, asked_length) = self.reduced(order);
+        asked_length <= own_length && own[..asked_length] == asked[..asked_length]
+    }
+
+    /// The reduction of an order of at most four columns: its columns and how
+    /// many they are.
+    fn reduced(&self, order: &[u8]) -> ([u8; 4], usize) {
+        let mut columns = [0; 4];
+        let mut length = 0;
+        for &column in order {
+            let column = self.standing_for[usize::from(column)];
+            if !columns[..length].contains(&column) {
+                columns[length] = column;
+                length += 1;
+            }
+        }
+        while let Some(place) = self.settled(&columns[..length]) {
+            columns.copy_within(place + 1..length, place);
+            length -= 1;
+        }
+        (columns, length)
+    }
+
+    /// The place of a column that a dependency settles from columns before it.
+    fn settled(&self, columns: &[u8]) -> Option<usize> {
+        self.fixes.iter().find_map(|fix| {
+            let place = columns.iter().position(|&column| column == fix.right)?;
+            let before = columns[..place]
+                .iter()
+                .fold(0, |set, column| set | 1 << column);
+            (fix.left & !before == 0).then_some(place)
+        })
+    }
+}

@@ -1,0 +1,72 @@
+//! What is timed beside the proved library does the same work: the lookups by
+//! hand give its numbers, and the reduction its answers where document 000 says
+//! so.
+
+use benchmarks::by_hand;
+use benchmarks::reduction::PlanNode;
+use differential::inputs::{damaged, table_of_sizes};
+use differential::proved;
+use reference::builder::build_table;
+use reference::random::Random;
+use reference::samples::EXAMPLE_QUERY;
+use reference::{Dependency, Query};
+
+#[test]
+fn lookups_by_hand() {
+    let mut random = Random::new(1);
+    for _ in 0..2000 {
+        let sizes = [(1, 128), (1, 8), (0, 8), (0, 8)];
+        let sizes = sizes.map(|(least, most)| random.between(least, most) as u8);
+        let table = table_of_sizes(&mut random, sizes);
+        for table in [damaged(&mut random, &table), table] {
+            for _ in 0..20 {
+                let [a, b] = [[16, 256], [10, 256]].map(|limits| {
+                    let limit = limits[random.below(2)];
+                    random.below(limit) as u8
+                });
+                assert_eq!(by_hand::enter(&table, b), proved::table_enter(&table, b));
+                assert_eq!(
+                    by_hand::take(&table, a, b),
+                    proved::table_take(&table, a, b)
+                );
+                assert_eq!(by_hand::ask(&table, a, b), proved::table_ask(&table, a, b));
+            }
+        }
+    }
+}
+
+#[test]
+fn reduction_of_the_example() {
+    let query = Query::read(&EXAMPLE_QUERY).expect("the example is read");
+    let table = build_table(&EXAMPLE_QUERY).expect("the example has a table");
+    for produced in 0..2 {
+        for sets in [&[][..], &[0], &[1], &[0, 1], &[1, 0]] {
+            let state = reference::table::follow(&table, produced, sets).expect("granted");
+            let mut node = PlanNode::new(&query.produced[usize::from(produced)]);
+            sets.iter().for_each(|&set| node.take(&query, set));
+            for (handle, order) in (0..).zip(query.interesting()) {
+                let held = reference::table::ask(&table, state, handle);
+                assert_eq!(Ok(node.ask(order)), held, "{order:?} after {sets:?}");
+            }
+        }
+    }
+}
+
+#[test]
+fn reduction_is_not_confluent() {
+    let [a, b, c] = [0, 1, 2];
+    let mut dependencies = vec![Dependency::fix(0, &[a, b], c), Dependency::fix(0, &[a], b)];
+    for held in [true, false] {
+        let query = Query {
+            columns: 3,
+            produced: vec![vec![a]],
+            tested: vec![],
+            sets: 1,
+            dependencies: dependencies.clone(),
+        };
+        let mut node = PlanNode::new(&query.produced[0]);
+        node.take(&query, 0);
+        assert_eq!(node.ask(&[a, b, c]), held);
+        dependencies.reverse();
+    }
+}

@@ -1,0 +1,57 @@
+/* A planner's use of order tables: build the table of a query once, then carry one state per plan node.
+ * The query is that of examples/first.query: columns a, b, c; orders (a) and (b,a) can be produced, (a,b) and (c) are only looked for;
+ * set 0 brings a -> b and set 1 brings b = c. */
+#include <stdio.h>
+
+#include "order_tables.h"
+
+static const uint8_t query[35] = {
+    3, 2, 2, 2, 2,       /* sizes N, P, T, S, D */
+    1, 2, 2, 1, 16, 65,  /* heads of the six items */
+    0, 255, 255, 255,    /* order 0, produced: (a) */
+    1, 0,   255, 255,    /* order 1, produced: (b,a) */
+    0, 1,   255, 255,    /* order 2, tested: (a,b) */
+    2, 255, 255, 255,    /* order 3, tested: (c) */
+    0, 1,   255, 255,    /* set 0: a -> b */
+    1, 2,   255, 255,    /* set 1: b = c */
+};
+static const char *const orders[4] = {"(a)", "(b,a)", "(a,b)", "(c)"};
+
+static uint8_t scratch[ORDER_TABLE_SCRATCH];
+static uint8_t output[ORDER_TABLE_LONGEST_TABLE];
+
+/* Prints which interesting orders a state holds. */
+static void print_held(const char *what, size_t length, uint8_t state) {
+    printf("%s: state %u holds", what, state);
+    for (uint8_t order = 0; order < 4; order++) {
+        if (order_table_ask(output, length, state, order) == 1) {
+            printf(" %s", orders[order]);
+        }
+    }
+    printf("\n");
+}
+
+int main(void) {
+    uint32_t built = order_table_build(query, sizeof query, scratch, sizeof scratch, output, sizeof output);
+    if (order_table_refusal(built) != ORDER_TABLE_GRANTED) {
+        printf("refused %u\n", order_table_refusal(built));
+        return 1;
+    }
+    size_t length = order_table_value(built);
+    printf("table of %zu bytes, check %u\n", length, order_table_refusal(order_table_check(output, length)));
+
+    uint8_t scan = (uint8_t)order_table_value(order_table_enter(output, length, 0));
+    print_held("scan in (a)", length, scan);
+    uint8_t selected = (uint8_t)order_table_value(order_table_take(output, length, scan, 0));
+    print_held("after set 0", length, selected);
+    uint8_t joined = (uint8_t)order_table_value(order_table_take(output, length, selected, 1));
+    print_held("after set 1", length, joined);
+    uint8_t sorted = (uint8_t)order_table_value(order_table_enter(output, length, 1));
+    print_held("sort by (b,a)", length, sorted);
+    print_held("after set 1", length, (uint8_t)order_table_value(order_table_take(output, length, sorted, 1)));
+
+    uint32_t row = order_table_row(output, length, scan);
+    printf("successors of state %u: %u %u\n", scan, output[order_table_value(row)], output[order_table_value(row) + 1]);
+    printf("set 2 refused with %u\n", order_table_refusal(order_table_take(output, length, scan, 2)));
+    return 0;
+}

@@ -1,0 +1,108 @@
+//! Order tables for a planner in Rust: build the table of a query, look it up,
+//! list it. All of it is done by the proved library; here its numbers become
+//! types, so that a set can't be passed as a state.
+//!
+//! ```no_run
+//! # fn plan(query: &[u8]) -> Result<bool, order_tables::Refusal> {
+//! use order_tables::{build, OrderHandle, SetHandle, Table};
+//!
+//! let mut output = [0; order_tables::LONGEST_TABLE];
+//! let length = build(query, &mut [0; order_tables::SCRATCH_BYTES], &mut output)?;
+//! let table = Table::new(&output[..length]);
+//! let scan = table.enter(OrderHandle(0))?;
+//! let joined = table.take(scan, SetHandle(0))?;
+//! table.ask(joined, OrderHandle(1))
+//! # }
+//! ```
+
+pub mod raw;
+mod refusal;
+
+pub use refusal::Refusal;
+use refusal::{granted, value};
+
+/// Bytes of scratch that a build or a listing takes.
+pub const SCRATCH_BYTES: usize = 16_384;
+/// Bytes of the longest query: five sizes, and 32 items of one head and four
+/// bytes.
+pub const LONGEST_QUERY: usize = 5 + 32 * 5;
+/// Bytes of the longest table: four sizes, 8 starts, 128 rows of 8 successors,
+/// and 128 times two bytes of held bits.
+pub const LONGEST_TABLE: usize = 4 + 8 + 128 * 8 + 128 * 2;
+/// Bytes that are enough for every listing.
+pub const LISTING_BYTES: usize = 7557;
+
+/// An interesting order: the produced ones count first, then the tested ones.
+#[derive(Clone, Copy, Debug, PartialEq, Eq, Hash, PartialOrd, Ord)]
+pub struct OrderHandle(pub u8);
+
+/// A set of dependencies.
+#[derive(Clone, Copy, Debug, PartialEq, Eq, Hash, PartialOrd, Ord)]
+pub struct SetHandle(pub u8);
+
+/// A state of a table. A plan node carries one.
+#[derive(Clone, Copy, Debug, PartialEq, Eq, Hash, PartialOrd, Ord)]
+pub struct StateNumber(pub u8);
+
+/// Builds the table of a query into the output's first bytes, and gives its
+/// length.
+///
+/// On refusal the output keeps its bytes, and those past the table always keep
+/// theirs. Once the query's checks 1 to 6 and the scratch length have passed,
+/// the scratch's first [`SCRATCH_BYTES`] bytes are 0 afterwards.
+pub fn build(query: &[u8], scratch: &mut [u8], output: &mut [u8]) -> Result<usize, Refusal> {
+    value(raw::table_build(query, scratch, output)).map(usize::from)
+}
+
+/// Writes the listing of a query, or the line that says how it is refused, into
+/// the text's first bytes, and gives its length. Refuses only with
+/// [`Refusal::Space`].
+pub fn list(query: &[u8], scratch: &mut [u8], text: &mut [u8]) -> Result<usize, Refusal> {
+    value(raw::table_list(query, scratch, text)).map(usize::from)
+}
+
+/// A table's bytes. Every lookup checks them as far as it needs to, so any bytes
+/// can be looked up.
+#[derive(Clone, Copy, Debug, PartialEq, Eq)]
+pub struct Table<'a> {
+    bytes: &'a [u8],
+}
+
+impl<'a> Table<'a> {
+    /// The table that some bytes are.
+    pub fn new(bytes: &'a [u8]) -> Self {
+        Self { bytes }
+    }
+
+    /// Checks the whole table's form.
+    pub fn check(self) -> Result<(), Refusal> {
+        granted(raw::table_check(self.bytes))
+    }
+
+    /// The state that a produced order starts in.
+    pub fn enter(self, produced: OrderHandle) -> Result<StateNumber, Refusal> {
+        value(raw::table_enter(self.bytes, produced.0)).map(state)
+    }
+
+    /// The state that taking a set leads to.
+    pub fn take(self, from: StateNumber, set: SetHandle) -> Result<StateNumber, Refusal> {
+        value(raw::table_take(self.bytes, from.0, set.0)).map(state)
+    }
+
+    /// Whether a state holds an interesting order.
+    pub fn ask(self, state: StateNumber, order: OrderHandle) -> Result<bool, Refusal> {
+        value(raw::table_ask(self.bytes, state.0, order.0)).map(|held| held == 1)
+    }
+
+    /// A state's successors, one byte for each set, as they are in the table.
+    pub fn row(self, state: StateNumber) -> Result<&'a [u8], Refusal> {
+        let offset = value(raw::table_row(self.bytes, state.0))?;
+        let sets = self.bytes[3];
+        Ok(&self.bytes[offset.into()..][..sets.into()])
+    }
+}
+
+/// The state of a granted lookup, whose value is below 128.
+fn state(value: u16) -> StateNumber {
+    StateNumber(value as u8)
+}

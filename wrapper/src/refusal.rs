@@ -1,0 +1,74 @@
+//! The refusal list.
+
+use std::fmt;
+
+/// Why something is refused, with the number it has in the refusal list.
+#[derive(Clone, Copy, Debug, PartialEq, Eq, Hash)]
+pub enum Refusal {
+    /// Fewer bytes than the sizes take, or a total other than they imply.
+    Length = 1,
+    /// A size outside its limits.
+    Size,
+    /// Order length above 4, kind above 4, set not below S, or unused byte not
+    /// 255.
+    Item,
+    /// A column not below N.
+    Column,
+    /// A column twice in one order or one dependency.
+    Repeat,
+    /// Two equal interesting orders.
+    Twin,
+    /// The construction has more than 256 nodes.
+    Orderings,
+    /// The construction has more than 128 states.
+    States,
+    /// Scratch below 16,384 bytes, or output or text too short.
+    Space,
+    /// State, produced order, set or interesting order not in the table.
+    Handle,
+    /// A start or successor not below Q, or a held bit past P+T.
+    Row,
+}
+
+/// All refusals, in the order of their numbers.
+const REFUSALS: [Refusal; 11] = [
+    Refusal::Length,
+    Refusal::Size,
+    Refusal::Item,
+    Refusal::Column,
+    Refusal::Repeat,
+    Refusal::Twin,
+    Refusal::Orderings,
+    Refusal::States,
+    Refusal::Space,
+    Refusal::Handle,
+    Refusal::Row,
+];
+
+impl Refusal {
+    /// The refusal's number.
+    pub fn number(self) -> u8 {
+        self as u8
+    }
+}
+
+impl fmt::Display for Refusal {
+    fn fmt(&self, f: &mut fmt::Formatter<'_>) -> fmt::Result {
+        write!(f, "refused {}", self.number())
+    }
+}
+
+impl std::error::Error for Refusal {}
+
+/// The value of a result of the proved library, or its refusal.
+pub(crate) fn value(result: u32) -> Result<u16, Refusal> {
+    match result >> 16 {
+        0 => Ok(result as u16),
+        number => Err(REFUSALS[number as usize - 1]),
+    }
+}
+
+/// A result of the proved library that has no value, or its refusal.
+pub(crate) fn granted(result: u32) -> Result<(), Refusal> {
+    value(result).map(|_| ())
+}
