@@ -55,6 +55,13 @@ static inline uint32_t order_table_value(uint32_t result) { return result & 0xff
 uint32_t order_table_build(const uint8_t *query, size_t query_length, uint8_t *scratch, size_t scratch_length, uint8_t *output,
                            size_t output_length);
 
+/* Builds as order_table_build does, then answers a list of lookups on the table, in place. A lookup is two bytes: its kind, 0 to enter by a
+ * produced order, 1 to take a set, any other to ask for an interesting order, and its handle. They become the answer's: the refusal, 0 for none,
+ * and the value. A granted entry or take hands its state to the lookups after it. A last odd byte is kept; on refusal all are. Value and refusals
+ * are the build's. */
+uint32_t order_table_replay(const uint8_t *query, size_t query_length, uint8_t *scratch, size_t scratch_length, uint8_t *output,
+                            size_t output_length, uint8_t *lookups, size_t lookups_length);
+
 /* Checks a table's form. Value: 0. Refusals: 1, 2, 11. A table that was built and not written to since passes. */
 uint32_t order_table_check(const uint8_t *table, size_t table_length);
 

@@ -48,13 +48,16 @@ impl Lent {
 
     /// Whether the bytes are these now, and the guards as they were at first.
     pub fn is_now(&self, bytes: &[u8]) -> bool {
+        inner(black_box(&self.memory)) == bytes && self.is_guarded()
+    }
+
+    /// Whether the guards are as they were at first.
+    pub fn is_guarded(&self) -> bool {
         // The compiler may take lent bytes for unchanged, so it must not know
         // these.
         let memory = black_box(&self.memory);
         let end = memory.len() - GUARD;
-        inner(memory) == bytes
-            && memory[..GUARD] == self.before[..GUARD]
-            && memory[end..] == self.before[end..]
+        memory[..GUARD] == self.before[..GUARD] && memory[end..] == self.before[end..]
     }
 }
 

@@ -9,7 +9,7 @@ use differential::inputs::{
     any_bytes, any_query, choices, damaged, largest_query, query_of_sizes, QUERY_EDGES,
 };
 use differential::lent::Lent;
-use differential::lookups::proved_answers;
+use differential::lookups::{lookup_bytes, proved_answers, replayed_answers};
 use differential::tally::Tally;
 use differential::{buffers, codes, proved};
 use order_tables::{LISTING_BYTES, LONGEST_TABLE, SCRATCH_BYTES};
@@ -333,6 +333,18 @@ fn lists_of_lookups_on_built_tables() {
                 let expected = model_answers(&query, &lookups);
                 assert_eq!(given, expected, "{lookups:?} on the table of {query:?}");
                 assert!(table.is_unchanged(), "written to the table of {query:?}");
+                let mut replayed = Lent::new(&mut random, &lookup_bytes(&lookups));
+                let again = proved::table_replay(
+                    &query.write(),
+                    &mut scratch,
+                    &mut output,
+                    replayed.bytes_mut(),
+                );
+                assert_eq!(again, length, "length of the table of {query:?}");
+                assert_eq!(&output[..length as usize], table.bytes(), "{query:?}");
+                let given_again = replayed_answers(&lookups, replayed.bytes());
+                assert_eq!(given_again, expected, "{lookups:?} replayed on {query:?}");
+                assert!(replayed.is_guarded(), "past the lookups of {query:?}");
                 tables += 1;
                 for answer in given {
                     answers[kind(answer)] += 1;
@@ -345,6 +357,24 @@ fn lists_of_lookups_on_built_tables() {
              {held} held, {not_held} not held, {refused} refused"
         );
         assert!(tables > 3000 && answers.iter().all(|&count| count > 5000));
+    }
+}
+
+#[test]
+fn a_refused_replay_keeps_the_lookups() {
+    let mut random = Random::new(8);
+    for (query, refusal) in [
+        (own_column_per_set(8).write(), 8),
+        (constants_among_produced(4).write(), 7),
+        (vec![1, 1, 0, 0], 1),
+    ] {
+        let bytes = any_bytes(&mut random, 41);
+        let mut lookups = Lent::new(&mut random, &bytes);
+        let mut scratch = [7; SCRATCH_BYTES];
+        let mut output = [7; LONGEST_TABLE];
+        let code = proved::table_replay(&query, &mut scratch, &mut output, lookups.bytes_mut());
+        assert_eq!(code, refusal << 16);
+        assert!(lookups.is_unchanged() && output == [7; LONGEST_TABLE]);
     }
 }
 

@@ -21,6 +21,16 @@ extern "C" {
     fn order_table_take(table: *const u8, length: usize, state: u8, set: u8) -> u32;
     fn order_table_ask(table: *const u8, length: usize, state: u8, order: u8) -> u32;
     fn order_table_row(table: *const u8, length: usize, state: u8) -> u32;
+    fn order_table_replay(
+        query: *const u8,
+        query_length: usize,
+        scratch: *mut u8,
+        scratch_length: usize,
+        output: *mut u8,
+        output_length: usize,
+        lookups: *mut u8,
+        lookups_length: usize,
+    ) -> u32;
     fn order_table_list(
         query: *const u8,
         query_length: usize,
@@ -87,6 +97,28 @@ pub fn table_ask(table: &[u8], state: u8, order: u8) -> u32 {
 /// A state's successor row: its offset in the table.
 pub fn table_row(table: &[u8], state: u8) -> u32 {
     unsafe { order_table_row(table.as_ptr(), table.len(), state) }
+}
+
+/// Building a query's table into the output's first bytes and answering lookups
+/// on it in place: the table's length.
+pub fn table_replay(
+    query: &[u8],
+    scratch: &mut [u8],
+    output: &mut [u8],
+    lookups: &mut [u8],
+) -> u32 {
+    unsafe {
+        order_table_replay(
+            query.as_ptr(),
+            query.len(),
+            scratch.as_mut_ptr(),
+            scratch.len(),
+            output.as_mut_ptr(),
+            output.len(),
+            lookups.as_mut_ptr(),
+            lookups.len(),
+        )
+    }
 }
 
 /// Listing a query into the text's first bytes: the listing's length.

@@ -5,14 +5,14 @@ ghost use Prim.Native.Nat.{_+_, _<_, _≤_};
 ghost use lib.ListN.{length};
 ghost use Rattle.theory.specs.Tests.{concat};
 ghost use Rattle.theory.specs.Table.{statesIn, producedIn};
-ghost use Rattle.theory.specs.Listing.{spaced, heldNumber, countsLine, startLine, stateLine};
+ghost use Rattle.theory.specs.Listing.{spaced, countsLine, startLine, stateLine};
 ghost use Rattle.table.specs.Form.{Formed};
 ghost use Rattle.listing.specs.Text.{Wrote, lines, heldPart};
 use crate::text::number;
 use crate::text::number_of;
 use crate::text::spaced_number;
 use crate::text::word;
-use table::held;
+use table::held_number;
 use table::produced;
 use table::states;
 use table::successors;
@@ -67,21 +67,6 @@ fn row_numbers(row: &[u8], text: &mut [u8], at: usize) -> usize
         i += 1;
     }
     end
-}
-
-fn wide(b: u8) -> usize
-    ensures { λ r. ⌜ (r ≡ b) × (r < 256) ⌝ }
-{
-    b as usize
-}
-
-// A state's held bits as one number.
-fn held_number(table: &[u8], state: usize) -> usize
-    requires { ⌜ Formed (now table) × (state < statesIn (now table)) ⌝ }
-    ensures { λ r. ⌜ r ≡ heldNumber (now (table .entry)) state ⌝ }
-{
-    let bytes = held(table, state);
-    wide(bytes[0]) + 256 * wide(bytes[1])
 }
 
 // The end of a state's line: its held bits.

@@ -10,7 +10,7 @@ use Rattle.theory.specs.Closure.{add, addAll, walk, closure}
 use Rattle.theory.proofs.Reflect.{says-as, says-one}
 use Rattle.theory.proofs.ListLaws.{member-drop}
 use Rattle.theory.proofs.RowLaws.{all-cons, all-append}
-use Rattle.nodes.proofs.WalkLaws.{turn}
+use Rattle.theory.proofs.WalkLaws.{turn}
 
 drop-map : {A B : Type 0} (f : A → B) (i : ℕ) (l : List A) → drop i (map f l) ≡ map f (drop i l)
 drop-map f zero l = refl

@@ -3,23 +3,17 @@ use Prim.Native.Nat.{ℕ, zero, suc, _+_, _-_, _<_, _≤_}
 use native.Mathlib.Nat.{le-refl, le-trans, sub-zero}
 use native.Mathlib.Numerals.{add-one}
 use native.Mathlib.Omega.{arith}
-use mathlib.Core.Path.{_≡_, refl, sym, _∙_, ap}
+use mathlib.Core.Path.{_≡_, sym, _∙_, ap}
 use mathlib.Core.Bool.{Bool, true, false}
 use mathlib.Core.List.{List, [], _∷_}
 use lib.Dec.{ltb}
-use lib.ListN.{length, drop, getD, drop-of-length-le}
-use lib.Seq.{drop-cons}
-use borrow.Author.Tests.{le-ltb}
+use lib.ListN.{length, drop, getD}
 use Rattle.theory.specs.Tests.{Decides}
 use Rattle.theory.specs.Closure.{addAll, walk, closure}
+use Rattle.theory.proofs.WalkLaws.{turn, walk-end, walk-more}
 use Rattle.nodes.proofs.AddedLaws.{addAll-longer}
 
 module _ {A : Type 0} (same : A → A → Bool) (out : A → List A) (cap : ℕ) where
-  -- one visit, where r is what is not visited yet, and `full` says whether more than the cap are found
-  abbrev pub turn : ℕ → List A → ℕ → List A → Bool → List A
-  turn fuel l i r full =
-      elim r as (λ (q : List A). List A) [ [] ↦ l | x ∷ rest ↦ elim full as (λ (c : Bool). List A) [ true ↦ l | false ↦ walk same out cap fuel (addAll same l (out x)) (suc i) ] ]
-
   -- the first i things of l were visited: the walk from there gives the whole closure
   pub record Walked (start l : List A) (i : ℕ) : Type 0 where
     pub rest : walk same out cap (suc cap - i) l i ≡ closure same out cap start
@@ -35,16 +29,6 @@ module _ {A : Type 0} {same : A → A → Bool} (dec : Decides same) (out : A �
       go on (x ∷ r) true = le-refl (length l)
       go on (x ∷ r) false = le-trans (addAll-longer dec l (out x)) (on (addAll same l (out x)))
 
-  walk-end : (fuel : ℕ) (l : List A) (i : ℕ) → length l ≤ i → walk same out cap fuel l i ≡ l
-  walk-end zero l i h = refl
-  walk-end (suc fuel) l i h = ap (λ r. turn same out cap fuel l i r (ltb cap (length l))) (drop-of-length-le l {i = i} h)
-
-  walk-more : (fuel : ℕ) (l : List A) (i : ℕ) (d : A) → i < length l → length l ≤ cap →
-      walk same out cap (suc fuel) l i ≡ walk same out cap fuel (addAll same l (out (getD l i d))) (suc i)
-  walk-more fuel l i d h few =
-      ap (λ r. turn same out cap fuel l i r (ltb cap (length l))) (drop-cons l i d h)
-      ∙ ap (λ b. turn same out cap fuel l i (getD l i d ∷ drop (suc i) l) b) (le-ltb cap (length l) few)
-
   module _ (start : List A) where
     pub walked-none : (l : List A) → l ≡ addAll same [] start → Walked same out cap start l 0
     walked-none l e = record { rest = ap (λ f. walk same out cap f l zero) (sub-zero (suc cap)) ∙ ap (λ k. walk same out cap (suc cap) k zero) e }
@@ -55,7 +39,7 @@ module _ {A : Type 0} {same : A → A → Bool} (dec : Decides same) (out : A �
 
     module _ {l : List A} {i : ℕ} (w : Walked same out cap start l i) where
       pub walked-all : length l ≤ i → l ≡ closure same out cap start
-      walked-all h = sym (walk-end (suc cap - i) l i h) ∙ w .rest
+      walked-all h = sym (walk-end same out cap (suc cap - i) l i h) ∙ w .rest
 
       module _ (d : A) (m : List A) (more : i < length l) (few : length l ≤ cap) (e : m ≡ addAll same l (out (getD l i d))) where
         next : walk same out cap (suc cap - (i + 1)) m (i + 1) ≡ closure same out cap start
@@ -63,7 +47,7 @@ module _ {A : Type 0} {same : A → A → Bool} (dec : Decides same) (out : A �
             let left : suc cap - i ≡ suc (suc cap - (i + 1)) = omega arith in
             ap (λ k. walk same out cap (suc cap - (i + 1)) k (i + 1)) e
             ∙ ap (λ j. walk same out cap (suc cap - (i + 1)) (addAll same l (out (getD l i d))) j) (add-one i)
-            ∙ sym (walk-more (suc cap - (i + 1)) l i d more few) ∙ ap (λ f. walk same out cap f l i) (sym left) ∙ w .rest
+            ∙ sym (walk-more same out cap (suc cap - (i + 1)) l i d more few) ∙ ap (λ f. walk same out cap f l i) (sym left) ∙ w .rest
 
         pub walked-more : Walked same out cap start m (i + 1)
         walked-more = record { rest = next }

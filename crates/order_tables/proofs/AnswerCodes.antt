@@ -6,11 +6,12 @@ use lib.Dec.{eqb}
 use lib.ListN.{length}
 use Rattle.theory.specs.Tests.{pick}
 use Rattle.theory.specs.Refusals.{passed}
-use mathlib.Core.Path.{_≡_, refl}
+use mathlib.Core.Path.{_≡_, refl, sym, _∙_, ap, subst}
 use Rattle.theory.specs.Query.{Bytes}
 use Rattle.theory.specs.Build.{Outcome, refused, built, outcome}
 use Rattle.theory.proofs.DemandThree.{built-facts}
 use Rattle.table.proofs.FormLaws.{formed-short}
+use Rattle.builder.specs.declared.construct.Built.{Built}
 use Rattle.builder.specs.Built.{answerOf}
 use Rattle.builder.proofs.AnswerLaws.{built-formed}
 use Rattle.theory.specs.Listing.{listing}
@@ -18,17 +19,23 @@ use Rattle.query_listing.specs.Listed as listed
 use Rattle.query_listing.proofs.LengthLaws.{listing-short}
 use Rattle.order_tables.specs.Codes.{buildCode}
 
-pub build-code : (o : Outcome) → answerOf o .refusal * 65536 + answerOf o .length ≡ buildCode o
+-- a build's answer
+build-code : (o : Outcome) → answerOf o .refusal * 65536 + answerOf o .length ≡ buildCode o
 build-code (refused n) = omega arith
 build-code (built t n) = omega arith
 
-pub build-short : (query : Bytes) (scratch output : ℕ) → answerOf (outcome query scratch output) .length < 65536
-build-short query scratch output = go (outcome query scratch output) refl
-  where
-    go : (o : Outcome) → outcome query scratch output ≡ o → answerOf o .length < 65536
-    go (refused n) e = omega arith
-    go (built t n) e = omega (arith, formed-short (built-formed (built-facts query scratch output t n e)))
+module _ (query : Bytes) (scratch output : ℕ) {r : Built} (a : r ≡ answerOf (outcome query scratch output)) where
+  pub build-short : r .length < 65536
+  build-short = subst (λ b. b .length < 65536) (sym a) (go (outcome query scratch output) refl)
+    where
+      go : (o : Outcome) → outcome query scratch output ≡ o → answerOf o .length < 65536
+      go (refused n) e = omega arith
+      go (built t n) e = omega (arith, formed-short (built-formed (built-facts query scratch output t n e)))
 
+  pub build-number : {code : ℕ} → code ≡ r .refusal * 65536 + r .length → code ≡ buildCode (outcome query scratch output)
+  build-number e = e ∙ ap (λ b. b .refusal * 65536 + b .length) a ∙ build-code (outcome query scratch output)
+
+-- a listing's answer
 pub list-short : (query : Bytes) (refusal : ℕ) → listed.answerOf (listing query) refusal .length < 65536
 list-short query refusal = go (eqb refusal passed)
   where

@@ -16,6 +16,7 @@ ghost use lib.ListN.{length};
 ghost use Rattle.orders.specs.Orders.{orderOf, ruleIs};
 ghost use Rattle.lookup.specs.Answers.{answerOf, heldOf};
 ghost use Rattle.theory.specs.Listing.{listing};
+ghost use Rattle.replay.specs.Replay.{lookupsAfter, Modelled};
 ghost use Rattle.query_listing.specs.Listed.{listRefusal, textAfter};
 ghost use Rattle.query_listing.specs.Listed as listed;
 ghost use Rattle.order_tables.specs.Codes.{refusedCode, answerCode, buildCode, listCode, rowCode, columnsCode, orderCode, kindCode, ruleColumns, dependencyCode};
@@ -61,6 +62,24 @@ pub extern "C" fn order_table_build(query: &[u8], scratch: &mut [u8], output: &m
     ensures { λ r. ⌜ now (scratch .exit) ≡ scratchAfter (now (query .entry)) (now (scratch .entry)) ⌝ }
 {
     let built = builder::build(query, scratch, output);
+    coded(built.refusal, built.length)
+}
+
+// Build a query's table and answer a list of lookups on it in place, two bytes for each: the table's length.
+#[no_mangle]
+pub extern "C" fn order_table_replay(
+    query: &[u8],
+    scratch: &mut [u8],
+    output: &mut [u8],
+    lookups: &mut [u8],
+) -> u32
+    ensures { λ r. ⌜ r ≡ buildCode (outcome (now (query .entry)) (length (now (scratch .entry))) (length (now (output .entry)))) ⌝ }
+    ensures { λ r. ⌜ now (output .exit) ≡ outputAfter (now (query .entry)) (length (now (scratch .entry))) (now (output .entry)) ⌝ }
+    ensures { λ r. ⌜ now (scratch .exit) ≡ scratchAfter (now (query .entry)) (now (scratch .entry)) ⌝ }
+    ensures { λ r. ⌜ now (lookups .exit) ≡ lookupsAfter (outcome (now (query .entry)) (length (now (scratch .entry))) (length (now (output .entry)))) (now (lookups .entry)) ⌝ }
+    ensures { λ r. ⌜ Modelled (now (query .entry)) (length (now (scratch .entry))) (length (now (output .entry))) (now (lookups .entry)) (now (lookups .exit)) ⌝ }
+{
+    let built = replay::replay(query, scratch, output, lookups);
     coded(built.refusal, built.length)
 }
 

@@ -16,7 +16,8 @@ use Rattle.theory.proofs.Reflect.{decides-marks, says-eqb}
 use Rattle.theory.proofs.ClosureLaws.{addAll-has}
 use Rattle.closure.specs.Work.{packMarks, nodesOf, statesOf, contentsOf, successorsPart, StatesAre}
 use Rattle.states.specs.States.{Joined, StartsIn, Started, Visited, walkFrom, taken}
-use Rattle.states.proofs.WalkLaws.{prefix-position, walk-done}
+use Rattle.theory.proofs.WalkLaws.{walk-end}
+use Rattle.states.proofs.WalkLaws.{prefix-position}
 use Rattle.states.proofs.JoinedLaws.{listed-count}
 use Rattle.states.proofs.ContentLaws.{sets-are, starts-at, starts-count, successors-count}
 use Rattle.states.proofs.VisitLaws.{ahead-prefix, prefix-length}
@@ -75,7 +76,7 @@ pub visited-all : {b work starts : Bytes} {count : ℕ} → setCount b ≤ 8 →
 visited-all {b} {work} {starts} {count} small wide room begun v =
     let long = listed-count (v .listed) in
     let few = v .listed .few in
-    let all : statesOf b ≡ v .states = v .ahead ∙ walk-done decides-marks (λ ms. map (taken b ms) (setNumbers (readQuery b))) maxStates (129 - count) (v .states) count (omega arith) in
+    let all : statesOf b ≡ v .states = v .ahead ∙ walk-end sameMarks (λ ms. map (taken b ms) (setNumbers (readQuery b))) maxStates (129 - count) (v .states) count (omega arith) in
     let total : length (concat (contentsOf b .successors)) ≡ count * setCount b = successors-count b ∙ ap (λ n. n * setCount b) (ap length all ∙ long) in
     let low : count * setCount b ≤ 128 * 8 = mul-le-mul {n₂ = 128} few small in
     let size : length (take (length (readQuery b .produced)) starts) ≡ length (readQuery b .produced) = length-take-le (length (readQuery b .produced)) starts wide in

@@ -34,15 +34,7 @@ module _ {A : Type 0} {same : A → A → Bool} (dec : Decides same) (x : A) whe
       go (holds e) rest = absurd (before zero (omega arith) e)
       go (fails n) rest = ap suc rest
 
-  -- it is below the length exactly where x is in the list
-  pub position-bound : (l : List A) → List·Memᴰ x l → position same x l < length l
-  position-bound [] m = absurd (List·Memᴰ·not-nil m)
-  position-bound (y ∷ l) m = go (dec x y) (position-bound l)
-    where
-      go : {b : Bool} → Says (x ≡ y) b → (List·Memᴰ x l → position same x l < length l) → stepped b (position same x l) < suc (length l)
-      go (holds e) rest = omega arith
-      go (fails n) rest = let h = rest (⊎-elim (λ e. absurd (n e)) (λ k. k) (List·Memᴰ·cases-cons m)) in omega arith
-
+  -- a thing is in a list where its number is below the length
   pub position-member : (l : List A) → position same x l < length l → List·Memᴰ x l
   position-member [] h = absurd (not-suc-le-zero h)
   position-member (y ∷ l) h = go (dec x y) (position-member l) h

@@ -28,7 +28,8 @@ use Rattle.closure.specs.Work.{packMarks, Ready, nodesOf}
 use Rattle.closure.specs.Marks.{withMark}
 use Rattle.states.specs.States.{Keyed}
 use Rattle.closure.proofs.MarkLaws.{pack-length, pack-byte, pack-mark}
-use Rattle.states.proofs.PositionLaws.{position-bound, position-map}
+use Rattle.theory.proofs.PositionLaws.{position-bound}
+use Rattle.states.proofs.PositionLaws.{position-map}
 use Rattle.states.proofs.StateRows.{upFrom-snoc}
 use Rattle.states.proofs.JoinedLaws.{nodes-count}
 

@@ -17,8 +17,9 @@ use Rattle.theory.proofs.QueryLaws.{query-sizes}
 use Rattle.theory.proofs.ClosureLaws.{addAll-keeps, addAll-has}
 use Rattle.closure.specs.Work.{Ready, statesOf, contentsOf, successorsPart}
 use Rattle.states.specs.States.{Listed, Joined, taken, walkFrom, Visited, Visiting}
+use Rattle.theory.proofs.WalkLaws.{walk-more}
 use Rattle.states.proofs.StateRows.{rows-kept}
-use Rattle.states.proofs.WalkLaws.{prefix-trans, prefix-getD, prefix-position, walk-visit, walk-keeps}
+use Rattle.states.proofs.WalkLaws.{prefix-trans, prefix-getD, prefix-position, walk-keeps}
 use Rattle.states.proofs.JoinedLaws.{listed-count}
 use Rattle.states.proofs.ContentLaws.{sets-are, successors-at}
 
@@ -57,7 +58,7 @@ module _ {b work : Bytes} {count i : ℕ} where
       let few = v .listed .few in
       let long = listed-count (v .listed) in
       let fuel : 129 - i ≡ suc (128 - i) = omega arith in
-      let visit = walk-visit decides-marks (λ ms. map (taken b ms) (setNumbers (readQuery b))) maxStates (128 - i) (v .states) i [] (omega arith) (omega arith) in
+      let visit = walk-more sameMarks (λ ms. map (taken b ms) (setNumbers (readQuery b))) maxStates (128 - i) (v .states) i [] (omega arith) (omega arith) in
       record {
         states = v .states;
         listed = v .listed;

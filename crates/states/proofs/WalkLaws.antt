@@ -1,15 +1,14 @@
 -- The numbering walk, one visit at a time.
-use Prim.Native.Nat.{ℕ, zero, suc, _<_, _≤_}
-use mathlib.Core.Path.{_≡_, refl, sym, _∙_, ap}
+use Prim.Native.Nat.{ℕ, zero, suc, _<_}
+use mathlib.Core.Path.{_≡_, sym, _∙_, ap}
 use mathlib.Core.Bool.{Bool, true, false}
 use mathlib.Core.List.{List, [], _∷_, _++_, append-nil, append-assoc, List·Memᴰ, IsPrefix}
 use lib.Dec.{ltb}
-use lib.ListN.{length, drop, getD, List·getD-append, drop-of-length-le}
-use lib.Seq.{drop-cons}
-use borrow.Author.Tests.{le-ltb}
+use lib.ListN.{length, drop, getD, List·getD-append}
 use Rattle.theory.specs.Tests.{Decides, position}
 use Rattle.theory.specs.Closure.{addAll, walk}
 use Rattle.theory.proofs.ClosureLaws.{addAll-keeps}
+use Rattle.theory.proofs.WalkLaws.{turn}
 use Rattle.states.proofs.PositionLaws.{position-grows}
 
 module _ {A : Type 0} where
@@ -28,28 +27,11 @@ module _ {A : Type 0} {same : A → A → Bool} (dec : Decides same) where
   prefix-position l p x k = ap (position same x) (sym (p .1)) ∙ position-grows dec x l (p .0) k
 
   module _ (out : A → List A) (cap : ℕ) where
-    -- one turn, with the things that are not visited yet as an argument
-    abbrev capped : ℕ → List A → ℕ → A → Bool → List A
-    capped fuel l i x b = elim b as (λ (c : Bool). List A) [ true ↦ l | false ↦ walk same out cap fuel (addAll same l (out x)) (suc i) ]
-
-    abbrev turn : ℕ → List A → ℕ → List A → List A
-    turn fuel l i r = elim r as (λ (q : List A). List A) [ [] ↦ l | x ∷ rest ↦ capped fuel l i x (ltb cap (length l)) ]
-
-    pub walk-done : (fuel : ℕ) (l : List A) (i : ℕ) → length l ≤ i → walk same out cap fuel l i ≡ l
-    walk-done zero l i h = refl
-    walk-done (suc fuel) l i h = ap (turn fuel l i) (drop-of-length-le l {i = i} h)
-
-    pub walk-visit : (fuel : ℕ) (l : List A) (i : ℕ) (d : A) → i < length l → length l ≤ cap → walk same out cap (suc fuel) l i ≡ walk same out cap fuel (addAll same l (out (getD l i d))) (suc i)
-    walk-visit fuel l i d h few = ap (turn fuel l i) (drop-cons l i d h) ∙ ap (capped fuel l i (getD l i d)) (le-ltb cap (length l) few)
-
     pub walk-keeps : (fuel : ℕ) (l : List A) (i : ℕ) → IsPrefix l (walk same out cap fuel l i)
     walk-keeps zero l i = prefix-refl l
-    walk-keeps (suc fuel) l i = go (drop i l) (λ k. walk-keeps fuel k (suc i))
+    walk-keeps (suc fuel) l i = go (drop i l) (ltb cap (length l)) (λ k. walk-keeps fuel k (suc i))
       where
-        visit : (x : A) → ((k : List A) → IsPrefix k (walk same out cap fuel k (suc i))) → (b : Bool) → IsPrefix l (capped fuel l i x b)
-        visit x on true = prefix-refl l
-        visit x on false = prefix-trans l (addAll-keeps dec (out x) l) (on (addAll same l (out x)))
-
-        go : (r : List A) → ((k : List A) → IsPrefix k (walk same out cap fuel k (suc i))) → IsPrefix l (turn fuel l i r)
-        go [] on = prefix-refl l
-        go (x ∷ rest) on = visit x on (ltb cap (length l))
+        go : (r : List A) (b : Bool) → ((k : List A) → IsPrefix k (walk same out cap fuel k (suc i))) → IsPrefix l (turn same out cap fuel l i r b)
+        go [] b on = prefix-refl l
+        go (x ∷ rest) true on = prefix-refl l
+        go (x ∷ rest) false on = prefix-trans l (addAll-keeps dec (out x) l) (on (addAll same l (out x)))

@@ -4,11 +4,11 @@ ghost use Prim.Native.Nat.{_+_, _*_, _^_, _≤_, _<_};
 ghost use lib.ListN.{length};
 ghost use Rattle.theory.specs.Refusals.{firstOf};
 ghost use Rattle.theory.specs.Query.{byteAt};
-ghost use Rattle.theory.specs.Table.{statesIn, heldIn, tableRefusal, stateRefusal, startsRefusal, successorsRefusal, heldRefusal};
+ghost use Rattle.theory.specs.Table.{statesIn, tableRefusal, stateRefusal, startsRefusal, successorsRefusal, heldRefusal};
 ghost use Rattle.table.specs.Form.{Formed, runRefusal};
 use crate::PASSED;
 use crate::ROW_REFUSED;
-use crate::rows::held;
+use crate::rows::held_number;
 use crate::sizes::byte_at;
 use crate::sizes::form;
 use crate::sizes::produced;
@@ -16,7 +16,6 @@ use crate::sizes::sets;
 use crate::sizes::states;
 use crate::sizes::successors_base;
 use crate::sizes::tested;
-use crate::sizes::wide;
 
 // The check 11 of the state number at a place.
 fn state_refusal(table: &[u8], at: usize) -> u8
@@ -59,15 +58,6 @@ fn successors_refusal(table: &[u8]) -> u8
     ensures { λ r. ⌜ r ≡ successorsRefusal (now (table .entry)) ⌝ }
 {
     run_refusal(table, successors_base(table), states(table) * sets(table))
-}
-
-// A state's held bits as one number.
-fn held_number(table: &[u8], state: usize) -> usize
-    requires { ⌜ Formed (now table) × (state < statesIn (now table)) ⌝ }
-    ensures { λ r. ⌜ r ≡ byteAt (heldIn (now (table .entry)) state) 0 + 256 * byteAt (heldIn (now (table .entry)) state) 1 ⌝ }
-{
-    let bytes = held(table, state);
-    wide(bytes[0]) + 256 * wide(bytes[1])
 }
 
 // So many bits make numbers below this one.

@@ -5,6 +5,7 @@ mod sizes;
 
 pub use checks::check;
 pub use rows::held;
+pub use rows::held_number;
 pub use rows::row;
 pub use rows::successors;
 pub use rows::write_row;

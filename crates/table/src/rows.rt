@@ -7,10 +7,12 @@ ghost use lib.ListN.{length, take};
 ghost use lib.Seq.{paste};
 ghost use Rattle.theory.specs.Query.{rowAt};
 ghost use Rattle.theory.specs.Table.{statesIn, setsIn, rowIn, heldIn};
+ghost use Rattle.theory.specs.Listing.{heldNumber};
 ghost use Rattle.table.specs.Form.{Formed};
 use crate::sizes::held_base;
 use crate::sizes::sets;
 use crate::sizes::successors_base;
+use crate::sizes::wide;
 
 // The row reader: the first bytes of a part of the table that starts at a row.
 fn first(part: &[u8], width: usize) -> &[u8]
@@ -43,6 +45,15 @@ pub fn held(table: &[u8], state: usize) -> &[u8]
     ensures { λ r. ⌜ (now r ≡ heldIn (now (table .entry)) state) × (length (now r) ≡ 2) ⌝ }
 {
     row(table, held_base(table), 2, state)
+}
+
+// A state's held bits as one number.
+pub fn held_number(table: &[u8], state: usize) -> usize
+    requires { ⌜ Formed (now table) × (state < statesIn (now table)) ⌝ }
+    ensures { λ r. ⌜ r ≡ heldNumber (now (table .entry)) state ⌝ }
+{
+    let bytes = held(table, state);
+    wide(bytes[0]) + 256 * wide(bytes[1])
 }
 
 // Write a row of any width at a place: starts, successors and held bytes alike. The rest of the output keeps its bytes.

@@ -1,43 +1,27 @@
 -- The table of a query is faithful to it: a run of the table arrives at the state that the construction arrives at, and the held bits there say what the
 -- uncut derivation gives.
-use Prim.Native.Nat.{ℕ, zero, suc, _≤_, _<_}
+use Prim.Native.Nat.{ℕ, _≤_, _<_}
 use native.Mathlib.Nat.{zero-add}
 use native.Mathlib.Omega.{arith}
 use mathlib.Core.Path.{_≡_, refl, sym, _∙_, ap, ap₂, subst}
-use mathlib.Core.Bool.{Bool, true, false}
+use mathlib.Core.Bool.{false}
 use mathlib.Core.Logic.{⊎-elim, _↔_}
-use mathlib.Core.List.{List, [], _∷_, _++_, map, List·Memᴰ, List·Memᴰ·head, List·Memᴰ·tail, List·Memᴰ·not-nil, List·Memᴰ·cases-cons, List·Memᴰ·eq-of-singleton, List·Memᴰ·append-cases, Memᴰ·of-map}
+use mathlib.Core.List.{List, [], _∷_, _++_, map, List·Memᴰ, List·Memᴰ·head, List·Memᴰ·tail, List·Memᴰ·not-nil, List·Memᴰ·eq-of-singleton, List·Memᴰ·append-cases, Memᴰ·of-map}
 use lib.ListN.{length, getD, length-map, length-append}
-use Rattle.theory.specs.Tests.{Says, holds, fails, Decides, position}
+use Rattle.theory.specs.Tests.{position}
 use Rattle.theory.specs.Orders.{Order, Query, interesting}
 use Rattle.theory.specs.Construction.{State, Marks, sameMarks, nodes, startState, takeSet, takeSets, setNumbers, states, maxNodes, maxStates, holdsIn}
 use Rattle.theory.specs.Refusals.{passed}
 use Rattle.theory.specs.Query.{Bytes}
 use Rattle.theory.specs.Table.{Table, Sized, Numbered, tableOf, writeTable, bit, startIn, successorIn, heldBit, tableRefusal, readTable}
 use Rattle.theory.specs.Lookups.{entry, arrive, Faithful}
+use Rattle.theory.proofs.PositionLaws.{position-bound, position-reads}
 use Rattle.theory.proofs.Reflect.{decides-marks}
 use Rattle.theory.proofs.ListLaws.{member-getD, member-upFrom, upFrom-length, upFrom-getD}
 use Rattle.theory.proofs.NodeLaws.{nodes-exactly}
 use Rattle.theory.proofs.StateLaws.{says-held, states-exactly, takes-snoc}
 use Rattle.theory.proofs.RowLaws.{getD-map}
 use Rattle.theory.proofs.TableLaws.{written-start, written-successor, written-held, written-form, written-check, round-trip}
-
--- an element stands at its position
-position-bound : {A : Type 0} {same : A → A → Bool} → Decides same → (x : A) (l : List A) → List·Memᴰ x l → position same x l < length l
-position-bound dec x [] m = absurd (List·Memᴰ·not-nil m)
-position-bound {same} dec x (y ∷ l) m = go (dec x y) (position-bound dec x l)
-  where
-    go : {b : Bool} → Says (x ≡ y) b → (List·Memᴰ x l → position same x l < length l) → (elim b as (λ (c : Bool). ℕ) [ true ↦ zero | false ↦ suc (position same x l) ]) < suc (length l)
-    go (holds e) rest = omega arith
-    go (fails n) rest = let h = rest (⊎-elim (λ e. absurd (n e)) (λ k. k) (List·Memᴰ·cases-cons m)) in omega arith
-
-position-reads : {A : Type 0} {same : A → A → Bool} → Decides same → (x d : A) (l : List A) → List·Memᴰ x l → getD l (position same x l) d ≡ x
-position-reads dec x d [] m = absurd (List·Memᴰ·not-nil m)
-position-reads {same} dec x d (y ∷ l) m = go (dec x y) (position-reads dec x d l)
-  where
-    go : {b : Bool} → Says (x ≡ y) b → (List·Memᴰ x l → getD l (position same x l) d ≡ x) → getD (y ∷ l) (elim b as (λ (c : Bool). ℕ) [ true ↦ zero | false ↦ suc (position same x l) ]) d ≡ x
-    go (holds e) rest = sym e
-    go (fails n) rest = rest (⊎-elim (λ e. absurd (n e)) (λ k. k) (List·Memᴰ·cases-cons m))
 
 -- The sizes of a query, its nodes and its states are within their limits.
 pub record Fits (q : Query) : Type 0 where

@@ -1,7 +1,9 @@
 -- What follows from the definitions.
 pub mod Reflect
 pub mod ListLaws
+pub mod PositionLaws
 pub mod ClosureLaws
+pub mod WalkLaws
 pub mod RowTheorem
 pub mod StepLaws
 pub mod WantedLaws

@@ -1,11 +1,8 @@
 -- `order_tables::order_table_build` meets its contract: the builder's answer as one number.
-use Prim.Native.Nat.{_+_, _*_, _<_}
-use mathlib.Core.Path.{sym, _∙_, ap, subst}
 use lib.ListN.{length}
 use denote.Ref.{now}
 use borrow.Author.Needs.{needs}
-use Rattle.theory.specs.Build.{outcome}
-use Rattle.order_tables.proofs.AnswerCodes.{build-code, build-short}
+use Rattle.order_tables.proofs.AnswerCodes.{build-short, build-number}
 use Rattle.order_tables.proofs.order_table_build.Statement.{statement}
 use Rattle.order_tables.proofs.order_table_build.Tie as tie
 
@@ -14,7 +11,7 @@ build-requires c κs = search needs
 
 coded-requires : tie.Need-coded-requires
 coded-requires c κs = let a = c .before .before .before .before .before .before .before .before .before .before .args in
-    subst (λ b. b .length < 65536) (sym (c .before .before .before .before .build .ensures .0)) (build-short (now (a .query)) (length (now (a .scratch))) (length (now (a .output))))
+    build-short (now (a .query)) (length (now (a .scratch))) (length (now (a .output))) (c .before .before .before .before .build .ensures .0)
 
 same-length : tie.Need-same-length
 same-length c = search needs
@@ -25,7 +22,7 @@ same-length-2 c = search needs
 returns : tie.Need-returns
 returns c = let a = c .before .before .before .before .before .before .before .before .before .before .before .args in
     let e = c .before .before .before .before .before .build .ensures in
-    (c .coded .ensures ∙ ap (λ b. b .refusal * 65536 + b .length) (e .0) ∙ build-code (outcome (now (a .query)) (length (now (a .scratch))) (length (now (a .output)))), e .1)
+    (build-number (now (a .query)) (length (now (a .scratch))) (length (now (a .output))) (e .0) (c .coded .ensures), e .1)
 
 pub order-table-build-spec : {M : Type 1} → statement M
 order-table-build-spec =

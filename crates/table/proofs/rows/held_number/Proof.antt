@@ -1,7 +1,7 @@
--- `table::checks::held_number` meets its contract, by that of `held`.
+-- `table::rows::held_number` meets its contract, by that of `held`.
 use borrow.Author.Needs.{needs}
-use Rattle.table.proofs.checks.held_number.Statement.{statement}
-use Rattle.table.proofs.checks.held_number.Tie as tie
+use Rattle.table.proofs.rows.held_number.Statement.{statement}
+use Rattle.table.proofs.rows.held_number.Tie as tie
 
 held-requires : tie.Need-held-requires
 held-requires c κs = search needs
