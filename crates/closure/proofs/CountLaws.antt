@@ -1,19 +1,19 @@
 -- How many of the first n nodes are in a set: putting in a node that was not there makes them more.
-use Prim.Native.Nat.{ℕ, zero, suc, _+_, _/_, _%_, _^_, _<_, _≤_, max}
-use native.Mathlib.Nat.{max-le, le-max-left, le-max-right, div-self, not-suc-le-zero, le-of-suc-le-suc, eq-or-lt-of-le}
+use Prim.Native.Nat.{ℕ, zero, suc, _+_, _/_, _%_, _^_, _-_, _<_, _≤_, max}
+use native.Mathlib.Nat.{max-le, le-max-left, le-max-right, div-self, div-eq-of-lt, pow-succ', not-suc-le-zero, le-of-suc-le-suc, eq-or-lt-of-le}
 use native.Mathlib.Omega.{arith}
 use mathlib.Core.Path.{_≡_, refl, sym, _∙_, ap}
 use mathlib.Core.Bool.{Bool, true, false}
-use mathlib.Core.Logic.{⊎-elim}
+use mathlib.Core.Logic.{_⊎_, inl, inr, ⊎-elim}
 use lib.Bits.{bitOr, or-step, or-shr}
 use lib.ListN.{length, length-set}
-use lib.Pow.{pow-pos}
+use lib.Pow.{pow-pos, pow-lt, pow-add, shl-shr}
 use lib.Seq.{getD-set-same, getD-set-other}
 use borrow.Author.Tests.{eqb-true, eq-eqb}
 use Rattle.theory.specs.Tests.{Says, holds, fails}
 use Rattle.theory.specs.Query.{Bytes, byteAt}
 use Rattle.theory.specs.Table.{bit}
-use Rattle.theory.proofs.Reflect.{says-eqb}
+use Rattle.theory.proofs.Reflect.{says-eqb, says-ltb}
 use Rattle.closure.specs.Marks.{inMarks, withMark}
 
 pub mark-length : (m : Bytes) (i : ℕ) → length (withMark m i) ≡ length m
@@ -27,6 +27,18 @@ or-bit a b k =
     let y = b / 2 ^ k in
     let low : max (x % 2) (y % 2) ≤ 1 = max-le (omega arith) (omega arith) in
     ap (λ n. n % 2) (or-shr a b k ∙ or-step x y) ∙ omega arith
+
+-- a power of two has no other bit
+other-bit : (a k : ℕ) → (a ≡ k → ⊥) → 2 ^ a / 2 ^ k % 2 ≡ 0
+other-bit a k n = go (says-ltb a k)
+  where
+    go : {b : Bool} → Says (a < k) b → 2 ^ a / 2 ^ k % 2 ≡ 0
+    go (holds h) = ap (λ x. x % 2) (div-eq-of-lt (pow-lt h))
+    go (fails h) =
+        let d = a - suc k in
+        let e : a ≡ suc d + k = omega arith in
+        let even : 2 ^ suc d % 2 ≡ 0 = rw pow-succ' (omega arith) in
+        ap (λ j. 2 ^ j / 2 ^ k % 2) e ∙ ap (λ x. x / 2 ^ k % 2) (pow-add 2 (suc d) k) ∙ ap (λ x. x % 2) (shl-shr (2 ^ suc d) k) ∙ even
 
 -- a set with one node more has that node, and those that it had
 module _ (m : Bytes) (i : ℕ) (within : i / 8 < length m) where
@@ -53,6 +65,18 @@ module _ (m : Bytes) (i : ℕ) (within : i / 8 < length m) where
       let one : 2 ^ k / 2 ^ k % 2 ≡ 1 = rw own in
       let more = le-max-right (byteAt m (i / 8) / 2 ^ k % 2) (2 ^ k / 2 ^ k % 2) in
       eq-eqb _ _ (ap (λ n. n / 2 ^ k % 2) (byte-same i refl) ∙ omega (arith, or-bit (byteAt m (i / 8)) (2 ^ k) k))
+
+  pub mark-only : (j : ℕ) → inMarks (withMark m i) j ≡ true → (j ≡ i) ⊎ (inMarks m j ≡ true)
+  unfolding withMark
+  mark-only j h = go (says-eqb (j / 8) (i / 8)) (says-eqb (i % 8) (j % 8))
+    where
+      go : {b c : Bool} → Says (j / 8 ≡ i / 8) b → Says (i % 8 ≡ j % 8) c → (j ≡ i) ⊎ (inMarks m j ≡ true)
+      go (holds e) (holds f) = inl (omega arith)
+      go (holds e) (fails f) =
+          let k = j % 8 in
+          let is : bitOr (byteAt m (j / 8)) (2 ^ (i % 8)) / 2 ^ k % 2 ≡ 1 = sym (ap (λ n. n / 2 ^ k % 2) (byte-same j e)) ∙ eqb-true (byteAt (withMark m i) (j / 8) / 2 ^ k % 2) 1 h in
+          inr (eq-eqb (byteAt m (j / 8) / 2 ^ k % 2) 1 (omega (arith, is, or-bit (byteAt m (j / 8)) (2 ^ (i % 8)) k, other-bit (i % 8) k f)))
+      go (fails n) c = inr (rw (getD-set-other m (i / 8) (j / 8) (bitOr (byteAt m (i / 8)) (2 ^ (i % 8))) 0 n) at h)
 
 abbrev pub held : ℕ → Bytes → ℕ
 held zero m = zero

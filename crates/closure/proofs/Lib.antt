@@ -6,3 +6,4 @@ pub mod RuleLaws
 pub mod NumberLaws
 pub mod GrownLaws
 pub mod TakenLaws
+pub mod VisitLaws

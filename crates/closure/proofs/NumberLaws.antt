@@ -7,16 +7,17 @@ use mathlib.Core.Bool.{Bool, true, false, false≢true}
 use mathlib.Core.Logic.{_⊎_, inl, inr, ⊎-elim}
 use mathlib.Core.List.{List, [], _∷_, map, List·Memᴰ, List·Memᴰ·head, List·Memᴰ·tail, List·Memᴰ·not-nil, List·Memᴰ·cases-cons, Memᴰ·cast}
 use lib.Dec.{eqb}
-use lib.ListN.{length, getD, set}
-use lib.Seq.{getD-set-same, getD-set-other, ext-getD}
-use borrow.Author.Tests.{ltb-true}
+use lib.ListN.{length, take, getD, set}
+use lib.Seq.{length-take-le, getD-set-same, getD-set-other, ext-getD}
 use Rattle.theory.specs.Tests.{Says, holds, fails, Distinct, empty, also, position}
 use Rattle.theory.specs.Orders.{Order}
+use Rattle.theory.specs.Query.{Bytes}
 use Rattle.theory.specs.Construction.{Marks, marked}
-use Rattle.theory.proofs.Reflect.{true-says, says-eqb, says-member, decides-number}
+use Rattle.theory.proofs.Reflect.{says-eqb, decides-number}
 use Rattle.theory.proofs.ListLaws.{Within, member-getD}
-use Rattle.orders.proofs.RunLaws.{position-member}
+use Rattle.theory.proofs.PositionLaws.{position-bound}
 use Rattle.derivation.specs.Keys.{keyOf}
+use Rattle.closure.specs.Close.{Room, Sought}
 
 -- the marked nodes are those whose mark is set
 pub at-marked : (ms : Marks) (ns : List Order) (o : Order) → List·Memᴰ o (marked ms ns) → (i : ℕ) × (i < length ns) × (getD ms i false ≡ true) × (getD ns i [] ≡ o)
@@ -81,7 +82,7 @@ key-at (n ∷ ns) zero h = refl
 key-at (n ∷ ns) (suc i) h = key-at ns i (le-of-suc-le-suc h)
 
 -- what stands at a key's number is the key
-pub position-at : (x : ℕ) (l : List ℕ) → position eqb x l < length l → getD l (position eqb x l) 0 ≡ x
+position-at : (x : ℕ) (l : List ℕ) → position eqb x l < length l → getD l (position eqb x l) 0 ≡ x
 position-at x [] h = absurd (not-suc-le-zero h)
 position-at x (y ∷ l) h = go (says-eqb x y) h (position-at x l)
   where
@@ -90,5 +91,11 @@ position-at x (y ∷ l) h = go (says-eqb x y) h (position-at x l)
     go (holds e) b rest = sym e
     go (fails n) b rest = rest (le-of-suc-le-suc b)
 
-pub position-bound : (x : ℕ) (l : List ℕ) → List·Memᴰ x l → position eqb x l < length l
-position-bound x l m = ltb-true (position eqb x l) (length l) (position-member x l ∙ true-says (says-member decides-number x l) m)
+-- the number of a key that was searched for
+pub sought : {x n r : ℕ} {nodes : List ℕ} {marks : Bytes} → Room nodes n marks → r ≡ position eqb x (take n nodes) → Sought (take n nodes) n x r
+sought {x} {n} {nodes = nodes} room e =
+    let l = length-take-le n nodes (omega (arith, room .slots, room .few)) in
+    record {
+      found = λ h. record { below = omega arith; key = ap (λ i. getD (take n nodes) i 0) e ∙ position-at x (take n nodes) (omega arith) };
+      absent = λ h m. let no : ⊥ = omega (arith, position-bound decides-number x (take n nodes) m) in no;
+    }

@@ -1,39 +1,45 @@
--- The results of a set's rules, dependency by dependency, and what a visit of a node marks.
-use Prim.Native.Nat.{ℕ}
-use mathlib.Core.Path.{_≡_, refl, _∙_, ap}
+-- The rules of a set, by the numbers of its dependencies, and their results one after the other.
+use Prim.Native.Nat.{ℕ, zero, suc, _+_, _<_}
+use native.Mathlib.Nat.{add-zero, add-suc}
+use mathlib.Core.Path.{_≡_, refl, sym, _∙_, ap}
 use mathlib.Core.Bool.{Bool, true, false}
-use mathlib.Core.List.{List, [], _∷_, _++_, map, map-map}
+use mathlib.Core.List.{List, [], _∷_, _++_, map, map-append, append-nil, append-assoc}
 use lib.Dec.{eqb}
-use lib.ListN.{getD}
+use lib.ListN.{length, take, getD}
 use Rattle.theory.specs.Tests.{pick, concat, upFrom}
-use Rattle.theory.specs.Orders.{Order, Rule, Dependency, rulesIn, rulesOf}
-use Rattle.theory.specs.Construction.{shorter, results}
+use Rattle.theory.specs.Orders.{Order, Rule, rulesIn, rulesOf}
+use Rattle.theory.specs.Construction.{results}
 use Rattle.theory.specs.Query.{Bytes, dependencyCount, orderCount, dependencyAt, readQuery}
-use Rattle.derivation.specs.Keys.{orderOfKey, keptKeys, keySteps}
-use Rattle.derivation.proofs.ReadKeys.{steps-parts}
-use Rattle.closure.specs.Marks.{inMarks}
-use Rattle.closure.specs.Close.{visitKeys}
+use Rattle.derivation.specs.Keys.{keptKeys}
+use Rattle.derivation.proofs.TurnLaws.{take-more}
+use Rattle.closure.specs.Close.{ownAt, ownOf, rulesAt}
 
--- the results of the rule of item k, if it belongs to set s
-abbrev pub resultsIn : Bytes → ℕ → Order → ℕ → List Order
-resultsIn b s o k = pick (eqb (dependencyAt b k .set) s) (results (dependencyAt b k .rule) o) []
-
-rules-in : (s : ℕ) (o : Order) (ds : List Dependency) → concat (map (λ r. results r o) (rulesIn s ds)) ≡ concat (map (λ (d : Dependency). pick (eqb (d .set) s) (results (d .rule) o) []) ds)
-rules-in s o [] = refl
-rules-in s o (d ∷ ds) = go (eqb (d .set) s) (rules-in s o ds)
+-- the rules of the set's dependencies are the set's
+rules-in : (b : Bytes) (s k n : ℕ) → rulesAt b (concat (map (ownAt b s) (upFrom k n))) ≡ rulesIn s (map (dependencyAt b) (upFrom (orderCount b + k) n))
+rules-in b s k zero = refl
+rules-in b s k (suc n) = go (eqb (dependencyAt b (orderCount b + k) .set) s) (rules-in b s (suc k) n ∙ ap (λ j. rulesIn s (map (dependencyAt b) (upFrom j n))) (add-suc (orderCount b) k))
   where
-    go : (b : Bool) {l : List Order} → concat (map (λ r. results r o) (rulesIn s ds)) ≡ l →
-        concat (map (λ r. results r o) (pick b (d .rule ∷ rulesIn s ds) (rulesIn s ds))) ≡ pick b (results (d .rule) o) [] ++ l
-    go true e = ap (λ r. results (d .rule) o ++ r) e
+    go : (t : Bool) {l : List Rule} → rulesAt b (concat (map (ownAt b s) (upFrom (suc k) n))) ≡ l →
+        rulesAt b (pick t (k ∷ []) [] ++ concat (map (ownAt b s) (upFrom (suc k) n))) ≡ pick t (dependencyAt b (orderCount b + k) .rule ∷ l) l
+    go true e = ap (λ r. dependencyAt b (orderCount b + k) .rule ∷ r) e
     go false e = e
 
-pub rules-read : (b : Bytes) (s : ℕ) (o : Order) → concat (map (λ r. results r o) (rulesOf (readQuery b) s)) ≡ concat (map (resultsIn b s o) (upFrom (orderCount b) (dependencyCount b)))
+pub own-rules : (b : Bytes) (s : ℕ) {own : List ℕ} → own ≡ ownOf b s → rulesAt b own ≡ rulesOf (readQuery b) s
 unfolding readQuery
-rules-read b s o =
-    rules-in s o (map (dependencyAt b) (upFrom (orderCount b) (dependencyCount b)))
-    ∙ ap concat (map-map (λ (d : Dependency). pick (eqb (d .set) s) (results (d .rule) o) []) (dependencyAt b) (upFrom (orderCount b) (dependencyCount b)))
+own-rules b s e = ap (rulesAt b) e ∙ rules-in b s 0 (dependencyCount b) ∙ ap (λ j. rulesIn s (map (dependencyAt b) (upFrom j (dependencyCount b)))) (add-zero (orderCount b))
 
--- a node that is in the set: the shorter ordering, then the results of the rules
-pub visit-parts : (w n : ℕ) (rs : List Rule) (ks : List ℕ) (m : Bytes) (i : ℕ) (o : Order) → inMarks m i ≡ true → orderOfKey (getD ks i 0) ≡ o →
-    visitKeys (keySteps w n rs) ks m i ≡ keptKeys w n (shorter o) ++ keptKeys w n (concat (map (λ r. results r o) rs))
-visit-parts w n rs ks m i o h e = rw h (steps-parts w n rs (getD ks i 0) o e)
+-- the results of one dependency more
+rules-more : (b : Bytes) (o : Order) (own : List ℕ) (i : ℕ) →
+    concat (map (λ r. results r o) (rulesAt b (own ++ (i ∷ [])))) ≡ concat (map (λ r. results r o) (rulesAt b own)) ++ results (dependencyAt b (orderCount b + i) .rule) o
+rules-more b o [] i = append-nil (results (dependencyAt b (orderCount b + i) .rule) o)
+rules-more b o (k ∷ own) i =
+    let here = results (dependencyAt b (orderCount b + k) .rule) o in
+    ap (λ l. here ++ l) (rules-more b o own i) ∙ sym (append-assoc here (concat (map (λ r. results r o) (rulesAt b own))) (results (dependencyAt b (orderCount b + i) .rule) o))
+
+pub results-more : (w n : ℕ) (b : Bytes) (o : Order) (own : List ℕ) (j : ℕ) → j < length own →
+    keptKeys w n (concat (map (λ r. results r o) (rulesAt b (take (j + 1) own))))
+    ≡ keptKeys w n (concat (map (λ r. results r o) (rulesAt b (take j own)))) ++ keptKeys w n (results (dependencyAt b (orderCount b + getD own j 0) .rule) o)
+results-more w n b o own j h =
+    ap (λ l. keptKeys w n (concat (map (λ r. results r o) (rulesAt b l)))) (take-more own j 0 h)
+    ∙ ap (keptKeys w n) (rules-more b o (take j own) (getD own j 0))
+    ∙ map-append _ (concat (map (λ r. results r o) (rulesAt b (take j own)))) (results (dependencyAt b (orderCount b + getD own j 0) .rule) o)

@@ -1,30 +1,31 @@
--- Visits of all nodes that add nothing: the marks are those of the set taken.
-use Prim.Native.Nat.{ℕ, _<_}
+-- All marked nodes visited: the marks are those of the set taken.
+use Prim.Native.Nat.{ℕ, _<_, _≤_}
 use native.Mathlib.Omega.{arith}
-use mathlib.Core.Path.{_≡_, refl, sym, _∙_, ap, subst}
+use mathlib.Core.Path.{_≡_, sym, _∙_, ap, subst}
 use mathlib.Core.Bool.{true, false}
 use mathlib.Core.Logic.{_↔_}
 use mathlib.Core.List.{List, [], map, List·Memᴰ, Memᴰ·cast, Memᴰ·map, Memᴰ·of-map}
-use lib.Dec.{eqb}
 use lib.ListN.{length, getD, take, length-map}
 use lib.Seq.{length-take-le}
-use Rattle.theory.specs.Tests.{position}
 use Rattle.theory.specs.Orders.{Order, Orderings, Query, rulesOf, allRules, Step, Reach, given, step}
 use Rattle.theory.specs.Closure.{Found, first, next}
 use Rattle.theory.specs.Construction.{kept, keptSteps, Node, Marks, marked, takeSet}
-use Rattle.theory.specs.Query.{Bytes, readQuery}
+use Rattle.theory.specs.Query.{Bytes, dependencyCount, readQuery}
 use Rattle.theory.proofs.ListLaws.{member-getD}
 use Rattle.theory.proofs.NodeLaws.{member-kept-steps, kept-steps-member, node-next, node-found, nodes-distinct, nodes-exactly}
 use Rattle.theory.proofs.StateLaws.{take-exactly}
+use Rattle.query.proofs.PassedLaws.{query-passed}
 use Rattle.derivation.specs.Keys.{keyOf, Small, keySteps}
 use Rattle.derivation.proofs.KeyLaws.{key-injective}
 use Rattle.nodes.proofs.NodeKeys.{kept-small, produced-small, key-steps}
 use Rattle.closure.specs.Work.{packMarks, Ready, nodesOf}
 use Rattle.closure.specs.Marks.{inMarks}
-use Rattle.closure.specs.Close.{Room, visitKeys, Visited, Visiting}
+use Rattle.closure.specs.Close.{Room, Visiting}
 use Rattle.closure.proofs.MarkLaws.{marked-pack}
-use Rattle.closure.proofs.NumberLaws.{at-marked, marked-at, marks-unique, key-at, position-at, position-bound}
-use Rattle.closure.proofs.GrownLaws.{Grown, grown-none, visited-grown, visited-zero}
+use Rattle.closure.proofs.NumberLaws.{at-marked, marked-at, marks-unique, key-at}
+use Rattle.closure.proofs.GrownLaws.{Grown, grown-none, visited-grown}
+use Rattle.closure.proofs.TraceLaws.{key-count}
+use Rattle.closure.proofs.VisitLaws.{Done, visited-zero, visit-done}
 
 taken-length : (q : Query) (ns : List Order) (ms : Marks) (s : ℕ) → length (takeSet q ns ms s) ≡ length ns
 unfolding takeSet
@@ -46,6 +47,9 @@ module _ {b : Bytes} {nodes : List ℕ} {n w l : ℕ} (ready : Ready b nodes n w
 
   pub node-count : length ns ≡ n
   node-count = sym (length-map ns keyOf) ∙ ap length (sym (ready .listed .keys)) ∙ length-take-le n nodes (omega (arith, ready .listed .room, ready .listed .few))
+
+  pub few-rules : dependencyCount b ≤ 16
+  few-rules = query-passed b (ready .prepared .checked) .sized .few-dependencies
 
   exact : (o : Order) → List·Memᴰ o ns ↔ Node q o
   exact = nodes-exactly q (omega (arith, node-count, ready .listed .few))
@@ -77,46 +81,48 @@ module _ {b : Bytes} {nodes : List ℕ} {n w l : ℕ} (ready : Ready b nodes n w
     pub taken-none : {m : Bytes} → length ms ≡ n → m ≡ packMarks ms → Grown ns Taken ms m
     taken-none h e = grown-none ms (h ∙ sym node-count) e (λ o k. given k)
 
-    pub taken-more : {m m′ : Bytes} {r : ℕ} → Visiting (keySteps w l (rulesOf q s)) (take n nodes) m n m′ r → Grown ns Taken ms m → Grown ns Taken ms m′
+    pub taken-more : {m v m′ v′ : Bytes} {r : ℕ} → Visiting (keySteps w l (rulesOf q s)) (take n nodes) m v n m′ v′ r → Grown ns Taken ms m → Grown ns Taken ms m′
     taken-more v g =
         visited-grown ns (omega (arith, node-count, ready .listed .few)) Taken (keySteps w l (rulesOf q s)) reached (rw (ready .listed .keys) at (v .visited)) (omega (arith, node-count)) g
 
-    -- a set of nodes that no visit adds to is closed under steps
-    module _ {m m′ : Bytes} (v : Visited (keySteps w l (rulesOf q s)) ks m n m′ 0) (g : Grown ns Taken ms m) where
+    -- a set of nodes all of which were visited is closed under steps
+    module _ {m v : Bytes} (d : Done (keySteps w l (rulesOf q s)) ks v m) (all : (i : ℕ) → i < n → inMarks m i ≡ true → inMarks v i ≡ true) (g : Grown ns Taken ms m) where
       closed : (o r : Order) → List·Memᴰ o (marked (g .after) ns) → Step (rulesOf q s) o r → List·Memᴰ (kept q r) (marked (g .after) ns)
       closed o r k st =
           let a = at-marked (g .after) ns o k in
           let i = a .0 in
           let x = keyOf (kept q r) in
           let node : List·Memᴰ (kept q r) ns = exact (kept q r) .1 (node-next q s o r (exact o .0 (Memᴰ·cast (sym (a .3)) (member-getD ns i [] (a .1)))) st) in
-          let j = position eqb x ks in
-          let below : j < length ks = position-bound x ks (Memᴰ·map keyOf node) in
-          let bound : j < length ns = rw (length-map ns keyOf) at below in
           let few = ready .listed .few in
           let seen : inMarks m i ≡ true = ap (λ d. inMarks d i) (g .packed) ∙ marked-pack (g .after) i (omega (arith, a .1, node-count)) ∙ a .2 in
           let small = node-small i (a .1) in
           let result : List·Memᴰ x (keySteps w l (rulesOf q s) (getD ks i 0)) =
           rw (key-at ns i (a .1), key-steps b w l (ready .prepared) (rulesOf q s) (getD ns i []) small)
           (Memᴰ·map keyOf (kept-steps-member q (rulesOf q s) (getD ns i []) r (rw (← a .3) at st))) in
-          let listed : List·Memᴰ x (visitKeys (keySteps w l (rulesOf q s)) ks m i) = rw seen result in
-          let set : getD (g .after) j false ≡ true =
-          sym (marked-pack (g .after) j (omega (arith, node-count))) ∙ ap (λ d. inMarks d j) (sym (g .packed)) ∙ visited-zero v refl .1 i (omega (arith, a .1, node-count)) x listed below in
+          let there = d .given i (rw (length-map ns keyOf) (a .1)) (all i (omega (arith, a .1, node-count)) seen) x result (Memᴰ·map keyOf node) in
+          let j = there .number in
+          let bound : j < length ns = rw (length-map ns keyOf) at (there .node .below) in
+          let set : getD (g .after) j false ≡ true = sym (marked-pack (g .after) j (omega (arith, node-count))) ∙ ap (λ d. inMarks d j) (sym (g .packed)) ∙ there .marked in
           let same : getD ns j [] ≡ kept q r =
-          key-injective (getD ns j []) (kept q r) (node-small j bound) (kept-small b w l (ready .prepared) r) (sym (key-at ns j bound) ∙ position-at x ks below) in
+          key-injective (getD ns j []) (kept q r) (node-small j bound) (kept-small b w l (ready .prepared) r) (sym (key-at ns j bound) ∙ there .node .key) in
           Memᴰ·cast (sym same) (marked-at (g .after) ns j bound set)
 
       complete : (o : Order) → Taken o → List·Memᴰ o (marked (g .after) ns)
       complete o (given k) = g .keeps o k
       complete _ (step {o} {r} p st) = closed o r (complete o p) st
 
-      all-taken : m′ ≡ packMarks (takeSet q ns ms s)
+      all-taken : m ≡ packMarks (takeSet q ns ms s)
       all-taken =
           let e = take-exactly q ns exact s ms in
-          visited-zero v refl .0 ∙ g .packed
+          g .packed
           ∙ ap packMarks
           (marks-unique (nodes-distinct q) (g .after) (takeSet q ns ms s) (g .long) (taken-length q ns ms s)
           (λ o k. e o .1 (g .sound o k)) (λ o k. complete o (e o .0 k)))
 
-    -- the set is taken
-    pub taken-all : {m m′ : Bytes} {r : ℕ} → Visiting (keySteps w l (rulesOf q s)) (take n nodes) m n m′ r → r ≡ 0 → Grown ns Taken ms m → m′ ≡ packMarks (takeSet q ns ms s)
-    taken-all v z g = all-taken (rw (z, ready .listed .keys) at (v .visited)) g
+    -- the set is taken: the last pass marked nothing
+    pub taken-all : {m v m′ v′ : Bytes} {r : ℕ} → (length m ≡ 32) × (length v ≡ 32) → Visiting (keySteps w l (rulesOf q s)) (take n nodes) m v n m′ v′ r → r ≡ 0 → Done (keySteps w l (rulesOf q s)) (take n nodes) v m → Grown ns Taken ms m → m′ ≡ packMarks (takeSet q ns ms s)
+    taken-all {m} {v′} long p z d g =
+        let room : Room nodes n m = ready-room (long .0) in
+        let u = visited-zero (omega (arith, key-count room, ready .listed .few)) (p .visited) z (omega (arith, key-count room)) long in
+        let after : Done (keySteps w l (rulesOf q s)) ks v′ m = rw (u .0, ready .listed .keys) at (visit-done room (long .1) p d) in
+        u .0 ∙ all-taken after (u .1) g

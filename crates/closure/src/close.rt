@@ -1,5 +1,6 @@
 // Taking a set in a state.
 use crate::marks;
+use crate::own;
 use derivation::keys;
 use derivation::results;
 use orders::Order;
@@ -7,16 +8,14 @@ use orders::Rule;
 ghost use mathlib.Core.Path.{_≡_};
 ghost use mathlib.Core.List.{[], _∷_, map};
 ghost use Prim.Native.Nat.{_+_, _≤_, _<_};
-ghost use lib.Dec.{eqb};
-ghost use lib.ListN.{length, take};
-ghost use Rattle.theory.specs.Tests.{pick, concat};
-ghost use Rattle.theory.specs.Orders.{rulesOf};
+ghost use lib.ListN.{length, take, getD};
+ghost use Rattle.theory.specs.Tests.{concat};
 ghost use Rattle.theory.specs.Construction.{Marks, takeSet, shorter, results};
 ghost use Rattle.theory.specs.Query.{readQuery, orderCount, dependencyAt};
 ghost use Rattle.orders.specs.Orders.{orderOf, ruleIs};
 ghost use Rattle.derivation.specs.Keys.{keptKeys, keySteps};
 ghost use Rattle.closure.specs.Work.{packMarks, Ready, nodesOf};
-ghost use Rattle.closure.specs.Close.{Room, Marking, Visiting, visitKeys};
+ghost use Rattle.closure.specs.Close.{Room, rulesAt, Marking, Turning, Visiting};
 
 // Mark the node that has the key, if one has; 1 where it was not marked.
 fn mark_key(nodes: &[u16], n: usize, marks: &mut [u8], key: u16) -> usize
@@ -89,7 +88,7 @@ fn mark_results(
     mark_all(nodes, n, marks, &keys, m)
 }
 
-// The kept results of dependency i, if it belongs to the set.
+// The kept results of dependency i.
 fn mark_dependency(
     query: &[u8],
     nodes: &[u16],
@@ -97,91 +96,112 @@ fn mark_dependency(
     marks: &mut [u8],
     o: Order,
     i: u8,
-    set: u8,
     wanted: u16,
     longest: usize,
 ) -> usize
     requires { ⌜ Room (now nodes) n (now marks) × (longest ≤ 4) ⌝ }
-    ensures { λ r. ⌜ Marking (take n (now (nodes .entry))) (keptKeys wanted longest (pick (eqb (dependencyAt (now (query .entry)) (orderCount (now (query .entry)) + i) .set) set) (results (dependencyAt (now (query .entry)) (orderCount (now (query .entry)) + i) .rule) (orderOf o)) [])) (now (marks .entry)) (now (marks .exit)) r ⌝ }
+    ensures { λ r. ⌜ Marking (take n (now (nodes .entry))) (keptKeys wanted longest (results (dependencyAt (now (query .entry)) (orderCount (now (query .entry)) + i) .rule) (orderOf o))) (now (marks .entry)) (now (marks .exit)) r ⌝ }
 {
     let dependency = query::dependency(query, i);
-    let own = dependency.set;
-    if own != set {
-        return 0;
-    }
     let rule = dependency.rule;
     mark_results(nodes, n, marks, o, rule, wanted, longest)
 }
 
-// The kept results of each dependency of the set in turn.
+// The kept results of the first m dependencies of `own` in turn.
 fn mark_steps(
     query: &[u8],
+    own: &[u8],
+    m: usize,
     nodes: &[u16],
     n: usize,
     marks: &mut [u8],
     o: Order,
-    set: u8,
     wanted: u16,
     longest: usize,
 ) -> usize
-    requires { ⌜ Room (now nodes) n (now marks) × (longest ≤ 4) ⌝ }
-    ensures { λ r. ⌜ Marking (take n (now (nodes .entry))) (keptKeys wanted longest (concat (map (λ rule. results rule (orderOf o)) (rulesOf (readQuery (now (query .entry))) set)))) (now (marks .entry)) (now (marks .exit)) r ⌝ }
+    requires { ⌜ Room (now nodes) n (now marks) × (m ≤ length (now own)) × (longest ≤ 4) ⌝ }
+    ensures { λ r. ⌜ Marking (take n (now (nodes .entry))) (keptKeys wanted longest (concat (map (λ rule. results rule (orderOf o)) (rulesAt (now (query .entry)) (take m (now (own .entry))))))) (now (marks .entry)) (now (marks .exit)) r ⌝ }
 {
-    let rules = query::dependencies(query);
     let mut count = 0;
-    let mut i: u8 = 0;
-    while i < rules {
-        count += mark_dependency(query, nodes, n, marks, o, i, set, wanted, longest);
-        i += 1;
+    let mut j = 0;
+    while j < m {
+        count += mark_dependency(query, nodes, n, marks, o, own[j], wanted, longest);
+        j += 1;
     }
     count
 }
 
-// All that one step under the set gives from node i, if it is marked.
+// All that one step under the first m dependencies of `own` gives from node i.
 fn visit(
     query: &[u8],
+    own: &[u8],
+    m: usize,
     nodes: &[u16],
     n: usize,
     marks: &mut [u8],
     i: usize,
-    set: u8,
     wanted: u16,
     longest: usize,
 ) -> usize
-    requires { ⌜ Room (now nodes) n (now marks) × (i < n) × (longest ≤ 4) ⌝ }
-    ensures { λ r. ⌜ Marking (take n (now (nodes .entry))) (visitKeys (keySteps wanted longest (rulesOf (readQuery (now (query .entry))) set)) (take n (now (nodes .entry))) (now (marks .entry)) i) (now (marks .entry)) (now (marks .exit)) r ⌝ }
+    requires { ⌜ Room (now nodes) n (now marks) × (i < n) × (m ≤ length (now own)) × (longest ≤ 4) ⌝ }
+    ensures { λ r. ⌜ Marking (take n (now (nodes .entry))) (keySteps wanted longest (rulesAt (now (query .entry)) (take m (now (own .entry)))) (getD (take n (now (nodes .entry))) i 0)) (now (marks .entry)) (now (marks .exit)) r ⌝ }
+{
+    let o = keys::order(nodes[i]);
+    let count = mark_shorter(nodes, n, marks, o, wanted, longest);
+    count + mark_steps(query, own, m, nodes, n, marks, o, wanted, longest)
+}
+
+// Node i in its turn: it is visited if it is marked and was not visited before.
+fn turn(
+    query: &[u8],
+    own: &[u8],
+    m: usize,
+    nodes: &[u16],
+    n: usize,
+    marks: &mut [u8],
+    visited: &mut [u8],
+    i: usize,
+    wanted: u16,
+    longest: usize,
+) -> usize
+    requires { ⌜ Room (now nodes) n (now marks) × (length (now visited) ≡ 32) × (i < n) × (m ≤ length (now own)) × (longest ≤ 4) ⌝ }
+    ensures { λ r. ⌜ Turning (keySteps wanted longest (rulesAt (now (query .entry)) (take m (now (own .entry))))) (take n (now (nodes .entry))) i (now (marks .entry)) (now (visited .entry)) (now (marks .exit)) (now (visited .exit)) r ⌝ }
 {
     if !marks::marked(marks, i) {
         return 0;
     }
-    let o = keys::order(nodes[i]);
-    let count = mark_shorter(nodes, n, marks, o, wanted, longest);
-    count + mark_steps(query, nodes, n, marks, o, set, wanted, longest)
+    if marks::marked(visited, i) {
+        return 0;
+    }
+    marks::mark(visited, i);
+    visit(query, own, m, nodes, n, marks, i, wanted, longest)
 }
 
-// Each node in turn.
+// Each node in its turn.
 fn pass(
     query: &[u8],
+    own: &[u8],
+    m: usize,
     nodes: &[u16],
     n: usize,
     marks: &mut [u8],
-    set: u8,
+    visited: &mut [u8],
     wanted: u16,
     longest: usize,
 ) -> usize
-    requires { ⌜ Room (now nodes) n (now marks) × (longest ≤ 4) ⌝ }
-    ensures { λ r. ⌜ Visiting (keySteps wanted longest (rulesOf (readQuery (now (query .entry))) set)) (take n (now (nodes .entry))) (now (marks .entry)) n (now (marks .exit)) r ⌝ }
+    requires { ⌜ Room (now nodes) n (now marks) × (length (now visited) ≡ 32) × (m ≤ length (now own)) × (longest ≤ 4) ⌝ }
+    ensures { λ r. ⌜ Visiting (keySteps wanted longest (rulesAt (now (query .entry)) (take m (now (own .entry))))) (take n (now (nodes .entry))) (now (marks .entry)) (now (visited .entry)) n (now (marks .exit)) (now (visited .exit)) r ⌝ }
 {
     let mut count = 0;
     let mut i = 0;
     while i < n {
-        count += visit(query, nodes, n, marks, i, set, wanted, longest);
+        count += turn(query, own, m, nodes, n, marks, visited, i, wanted, longest);
         i += 1;
     }
     count
 }
 
-// Mark all that steps under set `set` give from the marked nodes, repeated until nothing is added.
+// Mark all that steps under set `set` give from the marked nodes: each is visited once, in passes that are repeated until one marks nothing.
 pub fn close(
     query: &[u8],
     nodes: &[u16],
@@ -194,8 +214,22 @@ pub fn close(
     requires { ⌜ Ready (now query) (now nodes) n wanted longest × (length (now marks) ≡ 32) × (set < readQuery (now query) .sets) ⌝ }
     ensures { λ r. ⌜ (length (now (marks .exit)) ≡ 32) × ((ms : Marks) → length ms ≡ n → now (marks .entry) ≡ packMarks ms → now (marks .exit) ≡ packMarks (takeSet (readQuery (now (query .entry))) (nodesOf (now (query .entry))) ms set)) ⌝ }
 {
+    let mut own = [0u8; 16];
+    let m = own::list(query, &mut own, set);
+    let mut visited = [0u8; 32];
     loop {
-        if pass(query, nodes, n, marks, set, wanted, longest) == 0 {
+        let added = pass(
+            query,
+            &own,
+            m,
+            nodes,
+            n,
+            marks,
+            &mut visited,
+            wanted,
+            longest,
+        );
+        if added == 0 {
             return;
         }
     }

@@ -1,3 +1,4 @@
 // The closure of a set of nodes under one set of dependencies, as marks.
 pub mod close;
 pub mod marks;
+mod own;

@@ -1,32 +1,31 @@
--- `closure::close::mark_steps` meets its contract. The invariant: the results of the first i dependencies are marked.
-use Rattle.closure.proofs.RuleLaws.{resultsIn, rules-read}
-use Rattle.theory.specs.Query.{orderCount, dependencyCount}
+-- `closure::close::mark_steps` meets its contract. The invariant: the results of the first j dependencies are marked.
+use Rattle.closure.proofs.RuleLaws.{results-more}
 use native.Mathlib.Omega.{arith}
 use mathlib.Core.Path.{_≡_}
-use Rattle.derivation.proofs.ReadKeys.{kept-more}
 use Rattle.closure.proofs.TraceLaws.{room-none, room-more}
 use Prim.Native.Nat.{_≤_, _-_}
 use borrow.Author.Needs.{needs}
 use lib.ListN.{take}
 use mathlib.Core.List.{map}
-use Rattle.theory.specs.Tests.{concat, upFrom}
+use Rattle.theory.specs.Tests.{concat}
+use Rattle.theory.specs.Construction.{results}
 use Rattle.orders.specs.Orders.{orderOf}
 use Rattle.derivation.specs.Keys.{keptKeys}
-use Rattle.closure.specs.Close.{Marking}
+use Rattle.closure.specs.Close.{rulesAt, Marking}
 use Rattle.closure.proofs.close.mark_steps.Statement.{statement}
 use Rattle.closure.proofs.close.mark_steps.Tie as tie
 
 abbrev Inv-loop : tie.InvT-loop
-Inv-loop query nodes n marks₀ o set wanted longest rules count₀ i₀ marks count i = (i ≤ rules) × Marking (take n nodes) (keptKeys wanted longest (concat (map (resultsIn query set (orderOf o)) (upFrom (orderCount query) i)))) marks₀ marks count
+Inv-loop query own m nodes n marks₀ o wanted longest count₀ j₀ marks count j = (j ≤ m) × Marking (take n nodes) (keptKeys wanted longest (concat (map (λ rule. results rule (orderOf o)) (rulesAt query (take j own))))) marks₀ marks count
 
 abbrev μ-loop : tie.MeasureT-loop
-μ-loop query nodes n marks₀ o set wanted longest rules count₀ i₀ marks count i = rules - i
-
-dependencies-requires : tie.Need-dependencies-requires Inv-loop μ-loop
-dependencies-requires c κs = search needs
+μ-loop query own m nodes n marks₀ o wanted longest count₀ j₀ marks count j = m - j
 
 loop-holds : tie.Need-loop-holds Inv-loop μ-loop
 loop-holds c = (omega arith, room-none (c .before .before .before .before .pre .0))
+
+shared-slice-read-mark-dependency : tie.Need-shared-slice-read-mark-dependency Inv-loop μ-loop
+shared-slice-read-mark-dependency c = search needs
 
 mark-dependency-requires : tie.Need-mark-dependency-requires Inv-loop μ-loop
 mark-dependency-requires c κs = search needs
@@ -34,23 +33,21 @@ mark-dependency-requires c κs = search needs
 add-count : tie.Need-add-count Inv-loop μ-loop
 add-count c = search needs
 
-add-i : tie.Need-add-i Inv-loop μ-loop
-add-i c = search needs
+add-j : tie.Need-add-j Inv-loop μ-loop
+add-j c = search needs
 
 loop-less : tie.Need-loop-less Inv-loop μ-loop
 loop-less c = search needs
 
 loop-again : tie.Need-loop-again Inv-loop μ-loop
-loop-again c = let at = c .before .before .before .before .before .loop in let s = c .before .before .before .before .before .before .before .before .before .before in let a = s .args in
-    (omega arith, room-more (s .pre .0) (kept-more (a .wanted) (a .longest) (resultsIn (a .query .now) (a .set) (orderOf (a .o))) (orderCount (a .query .now)) (at .i)) (at .inv .1) (c .before .before .mark-dependency .ensures))
+loop-again c = let at = c .before .before .before .before .before .before .loop in let s = c .before .before .before .before .before .before .before .before .before .before .before in let a = s .args in
+    (omega arith, room-more (s .pre .0) (results-more (a .wanted) (a .longest) (a .query .now) (orderOf (a .o)) (a .own .now) (at .j) (omega arith)) (at .inv .1) (c .before .before .mark-dependency .ensures))
 
 same-length : tie.Need-same-length Inv-loop μ-loop
 same-length c = search needs
 
 returns : tie.Need-returns Inv-loop μ-loop
-returns c = let a = c .before .before .before .before .before .before .args in
-    let end : c .before .loop .i ≡ dependencyCount (a .query .now) = omega arith in
-    rw (rules-read (a .query .now) (a .set) (orderOf (a .o))) (rw end at (c .before .loop .inv .1))
+returns c = let end : c .before .loop .j ≡ c .before .before .before .before .before .before .args .m = omega arith in rw end at (c .before .loop .inv .1)
 
 pub mark-steps-spec : {M : Type 1} → statement M
 mark-steps-spec =
@@ -58,11 +55,11 @@ mark-steps-spec =
     (tie.spec
     Inv-loop
     μ-loop
-    dependencies-requires
     loop-holds
+    shared-slice-read-mark-dependency
     mark-dependency-requires
     add-count
-    add-i
+    add-j
     loop-less
     loop-again
     same-length
