@@ -14,7 +14,7 @@ use Rattle.theory.specs.Query.{Bytes, readQuery, queryRefusal}
 use Rattle.theory.specs.Build.{Outcome, refused, built, scratchLength, construct, outcome, tableBytes, Means, query-refused, scratch-short, many-orderings, many-states, output-short, table-built}
 use Rattle.theory.proofs.Reflect.{says-eqb, says-ltb}
 use Rattle.theory.proofs.NodeLaws.{nodes-many}
-use Rattle.theory.proofs.StateLaws.{states-many}
+use Rattle.theory.proofs.NumberedLaws.{states-many}
 
 module _ (query : Bytes) (scratch output : ℕ) where
   abbrev q : Query

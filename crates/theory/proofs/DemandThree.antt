@@ -18,7 +18,7 @@ use Rattle.theory.proofs.Reflect.{false-says}
 use Rattle.theory.proofs.ListLaws.{upFrom-length}
 use Rattle.theory.proofs.RowTheorem.{row-theorem}
 use Rattle.theory.proofs.NodeLaws.{nodes-many}
-use Rattle.theory.proofs.StateLaws.{states-many}
+use Rattle.theory.proofs.NumberedLaws.{states-many}
 use Rattle.theory.proofs.QueryLaws.{query-sizes}
 use Rattle.theory.proofs.BuildLaws.{outcome-means}
 use Rattle.theory.proofs.LookupLaw.{lookup-law}

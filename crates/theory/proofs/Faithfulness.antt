@@ -19,7 +19,8 @@ use Rattle.theory.proofs.PositionLaws.{position-bound, position-reads}
 use Rattle.theory.proofs.Reflect.{decides-marks}
 use Rattle.theory.proofs.ListLaws.{member-getD, member-upFrom, upFrom-length, upFrom-getD}
 use Rattle.theory.proofs.NodeLaws.{nodes-exactly}
-use Rattle.theory.proofs.StateLaws.{says-held, states-exactly, takes-snoc}
+use Rattle.theory.proofs.StateLaws.{says-held}
+use Rattle.theory.proofs.NumberedLaws.{states-exactly, takes-snoc}
 use Rattle.theory.proofs.RowLaws.{getD-map}
 use Rattle.theory.proofs.TableLaws.{written-start, written-successor, written-held, written-form, written-check, round-trip}
 

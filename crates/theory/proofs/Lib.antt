@@ -5,11 +5,14 @@ pub mod PositionLaws
 pub mod ClosureLaws
 pub mod WalkLaws
 pub mod RowTheorem
+pub mod PlaceLaws
 pub mod StepLaws
 pub mod WantedLaws
+pub mod KeptLaws
 pub mod CutTheorem
 pub mod NodeLaws
 pub mod StateLaws
+pub mod NumberedLaws
 pub mod RepeatLaws
 pub mod BuildLaws
 pub mod Picks

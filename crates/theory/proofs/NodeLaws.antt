@@ -13,7 +13,8 @@ use Rattle.theory.specs.Construction.{kept, steps, keptSteps, Node, node
 use Rattle.theory.proofs.Reflect.{says-as, says-eqb, decides-order}
 use Rattle.theory.proofs.ClosureLaws.{closure-distinct, closure-found, closure-complete, closure-many}
 use Rattle.theory.proofs.StepLaws.{member-step, step-member}
-use Rattle.theory.proofs.CutTheorem.{Within, rules-within, kept-cut, start-kept, reach-prefix}
+use Rattle.theory.proofs.KeptLaws.{Within, reach-prefix}
+use Rattle.theory.proofs.CutTheorem.{rules-within, kept-cut, start-kept}
 
 pub more-as : {A : Type 0} {n : ℕ} {P Q : A → Type 0} → ((x : A) → P x → Q x) → More n P → More n Q
 more-as f m = record { things = m .things; different = m .different; many = m .many; each = λ x k. f x (m .each x k) }

@@ -7,7 +7,8 @@ use lib.ListN.{length}
 use Rattle.theory.specs.Orders.{Order, Orderings, Rule, Query, rulesOf, sameOrder, Reach, given, Taken, Start, whole, After}
 use Rattle.theory.specs.Closure.{closure}
 use Rattle.theory.specs.Construction.{kept, keptSteps, KeptAfter, Node, Marks, marks, marked, prefixes, startState, takeSet, takeSets, State}
-use Rattle.theory.proofs.CutTheorem.{Cut, Within, PrefixClosed, cut-whole, kept-cut, start-kept, reach-prefix, reach-cut}
+use Rattle.theory.proofs.KeptLaws.{Cut, Within, PrefixClosed, cut-whole, reach-prefix, reach-cut}
+use Rattle.theory.proofs.CutTheorem.{kept-cut, start-kept}
 use Rattle.theory.proofs.StateLaws.{Alike, reach-more, reach-again, reach-none, marks-exactly, marks-canonical, In, take-exactly, state-exactly}
 use Rattle.theory.proofs.NodeLaws.{taken-snoc, map-snoc}
 

@@ -1,23 +1,20 @@
--- A state's marked nodes are exactly the orderings that the construction has there; the computed states are exactly the states, each once, or there are
--- more than the limit; and a set taken again directly after itself, and an empty set, change no state.
-use Prim.Native.Nat.{ℕ, _≤_, _<_}
+-- A state's marked nodes are exactly the orderings that the construction has there.
+use Prim.Native.Nat.{ℕ, _≤_}
 use native.Mathlib.Nat.{le-refl}
-use native.Mathlib.Omega.{arith}
 use mathlib.Core.Path.{_≡_, refl, sym, _∙_, ap, ap₂, subst}
 use mathlib.Core.Bool.{Bool, true, false, false≢true}
 use mathlib.Core.Logic.{_⊎_, inl, inr, ⊎-elim, _↔_}
-use mathlib.Core.List.{List, [], _∷_, _++_, map, append-nil, List·Memᴰ, List·Memᴰ·head, List·Memᴰ·tail, List·Memᴰ·not-nil, List·Memᴰ·cases-cons, List·Memᴰ·eq-of-singleton, List·Memᴰ·append-cases, Memᴰ·cast, Memᴰ·map, Memᴰ·of-map, tail-eq-of-cons-eq, head-eq-of-cons-eq, cons≢nil}
-use lib.Dec.{ltb}
+use mathlib.Core.List.{List, [], _∷_, _++_, map, append-nil, List·Memᴰ, List·Memᴰ·head, List·Memᴰ·tail, List·Memᴰ·not-nil, List·Memᴰ·cases-cons, List·Memᴰ·eq-of-singleton, Memᴰ·cast, Memᴰ·map, Memᴰ·of-map, tail-eq-of-cons-eq, head-eq-of-cons-eq, cons≢nil}
 use lib.ListN.{length}
-use Rattle.theory.specs.Tests.{Says, member, Distinct}
+use Rattle.theory.specs.Tests.{Says, member}
 use Rattle.theory.specs.Orders.{Order, Orderings, Rule, Query, interesting, rulesOf, Change, shorten, insert, behind, before, instead, at, Reach, given, step, Taken, Start, sameOrder, After}
-use Rattle.theory.specs.Closure.{Found, first, next, More, closure}
-use Rattle.theory.specs.Construction.{kept, keptSteps, KeptAfter, Node, Marks, marks, marked, prefixes, startState, takeSet, takeSets, State, setNumbers, statesWithin, holdsIn}
-use Rattle.theory.proofs.Reflect.{says-as, says-one, says-true, true-says, says-member, decides-order, decides-marks}
-use Rattle.theory.proofs.ListLaws.{member-upFrom, upFrom-member}
-use Rattle.theory.proofs.ClosureLaws.{closure-distinct, closure-found, closure-complete, closure-few, closure-many}
-use Rattle.theory.proofs.CutTheorem.{Within, PrefixClosed, cut-theorem}
-use Rattle.theory.proofs.NodeLaws.{more-as, found-reach, reach-found, node-next, member-kept-steps}
+use Rattle.theory.specs.Closure.{Found, first, next, closure}
+use Rattle.theory.specs.Construction.{kept, keptSteps, KeptAfter, Node, Marks, marks, marked, prefixes, startState, takeSet, takeSets, holdsIn}
+use Rattle.theory.proofs.Reflect.{says-as, says-one, says-true, true-says, says-member, decides-order}
+use Rattle.theory.proofs.ClosureLaws.{closure-found, closure-complete, closure-few}
+use Rattle.theory.proofs.KeptLaws.{Within, PrefixClosed}
+use Rattle.theory.proofs.CutTheorem.{cut-theorem}
+use Rattle.theory.proofs.NodeLaws.{found-reach, reach-found, node-next, member-kept-steps}
 
 -- the members of a set of orderings in one form are those in the other
 abbrev pub Alike : Orderings → Orderings → Type 0
@@ -155,57 +152,3 @@ module _ (q : Query) (ns : List Order) (exact : (o : Order) → List·Memᴰ o n
       let c = cut-theorem q p o ss mp mo in
       let e = state-exactly p mp ss o in
       says-as (λ k. c .1 (e .0 k)) (λ a. e .1 (c .0 a)) (says-member decides-order o (marked (takeSets q ns (startState ns p) ss) ns))
-
-pub takes-snoc : (q : Query) (ns : List Order) (ss : List ℕ) (s : ℕ) (ms : Marks) → takeSets q ns ms (ss ++ (s ∷ [])) ≡ takeSet q ns (takeSets q ns ms ss) s
-takes-snoc q ns [] s ms = refl
-takes-snoc q ns (r ∷ ss) s ms = takes-snoc q ns ss s (takeSet q ns ms r)
-
-module _ (q : Query) (ns : List Order) where
-  abbrev successors : Marks → List Marks
-  successors ms = map (takeSet q ns ms) (setNumbers q)
-
-  abbrev FoundState : Marks → Type 0
-  FoundState = Found successors (map (startState ns) (q .produced))
-
-  found-state : (ms : Marks) → FoundState ms → State q ns ms
-  found-state ms (first m) =
-      let t = Memᴰ·of-map (startState ns) (q .produced) m in
-      record { start = t .0; produced = t .1; sets = []; below = λ s k. absurd (List·Memᴰ·not-nil k); reached = t .2 }
-  found-state ms (next {x} f m) =
-      let t = Memᴰ·of-map (takeSet q ns x) (setNumbers q) m in
-      let r = found-state x f in
-      record {
-        start = r .start;
-        produced = r .produced;
-        sets = r .sets ++ (t .0 ∷ []);
-        below = λ s k. ⊎-elim (λ j. r .below s j) (λ j. let b = member-upFrom 0 (q .sets) (t .1) in let e = List·Memᴰ·eq-of-singleton j in omega arith) (List·Memᴰ·append-cases (r .sets) k);
-        reached = takes-snoc q ns (r .sets) (t .0) (startState ns (r .start)) ∙ ap (λ k. takeSet q ns k (t .0)) (r .reached) ∙ t .2;
-      }
-
-  takes-found : (ss : List ℕ) → ((s : ℕ) → List·Memᴰ s ss → s < q .sets) → (ms : Marks) → FoundState ms → FoundState (takeSets q ns ms ss)
-  takes-found [] b ms f = f
-  takes-found (s ∷ ss) b ms f =
-      takes-found ss (λ r m. b r (List·Memᴰ·tail m)) (takeSet q ns ms s)
-      (next f (Memᴰ·map (takeSet q ns ms) (upFrom-member 0 (q .sets) (omega arith) (let h = b s (List·Memᴰ·head refl) in omega arith))))
-
-  state-found : (ms : Marks) → State q ns ms → FoundState ms
-  state-found ms r = subst FoundState (r .reached) (takes-found (r .sets) (r .below) (startState ns (r .start)) (first (Memᴰ·map (startState ns) (r .produced))))
-
-  module _ (cap : ℕ) where
-    -- each state once
-    pub states-distinct : Distinct (statesWithin cap q ns)
-    unfolding statesWithin
-    states-distinct = closure-distinct decides-marks successors cap (map (startState ns) (q .produced))
-
-    -- within the limit, the list has exactly the states
-    pub states-exactly : length (statesWithin cap q ns) ≤ cap → (ms : Marks) → List·Memᴰ ms (statesWithin cap q ns) ↔ State q ns ms
-    unfolding statesWithin
-    states-exactly few ms = (
-      λ m. found-state ms (closure-found decides-marks successors cap (map (startState ns) (q .produced)) ms m),
-      λ r. closure-complete decides-marks successors cap (map (startState ns) (q .produced)) few ms (state-found ms r),
-    )
-
-    -- past it exactly when there are more states
-    pub states-many : Says (More cap (State q ns)) (ltb cap (length (statesWithin cap q ns)))
-    unfolding statesWithin
-    states-many = says-as (more-as found-state) (more-as state-found) (closure-many decides-marks successors cap (map (startState ns) (q .produced)))

@@ -14,7 +14,8 @@ use Rattle.trials.specs.Trials.{Trial, Expectation, table, refusal, stat
 use Rattle.theory.proofs.Reflect.{says-true, says-every, says-by, says-and, says-eqb, says-ltb, says-leb, decides-list, decides-number, decides-marks, decides-bool}
 use Rattle.theory.proofs.ListLaws.{member-getD}
 use Rattle.theory.proofs.NodeLaws.{nodes-exactly}
-use Rattle.theory.proofs.StateLaws.{says-held, states-distinct, states-exactly}
+use Rattle.theory.proofs.StateLaws.{says-held}
+use Rattle.theory.proofs.NumberedLaws.{states-distinct, states-exactly}
 
 -- the computed test of all trials
 all-pass : every passes trials ≡ true
