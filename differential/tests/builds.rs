@@ -17,8 +17,10 @@ use reference::builder::build_table;
 use reference::construction::{Construction, Limits};
 use reference::lookups::{model_answers, Answer};
 use reference::random::Random;
-use reference::samples::{self, Shape, EXAMPLE_LISTING, EXAMPLE_QUERY, EXAMPLE_TABLE};
-use reference::{Dependency, Query};
+use reference::samples::{
+    self, constants_among_produced, own_column_per_set, Shape, EXAMPLE_LISTING, EXAMPLE_QUERY,
+    EXAMPLE_TABLE,
+};
 
 /// Lengths of scratch around what a build takes.
 const SCRATCH_LENGTHS: [usize; 5] = [0, 16_383, 16_384, 16_385, 20_000];
@@ -242,19 +244,6 @@ fn sizes_at_and_past_their_limits() {
         .all(|&refusal| comparison.queries.with(refusal) > 50));
 }
 
-/// Produced (a), and per set its own b fixed by a, with (a,b) tested.
-fn own_column_per_set(sets: u8) -> Query {
-    Query {
-        columns: 12,
-        produced: vec![vec![0]],
-        tested: (1..=sets).map(|b| vec![0, b]).collect(),
-        sets,
-        dependencies: (0..sets)
-            .map(|set| Dependency::fix(set, &[0], set + 1))
-            .collect(),
-    }
-}
-
 #[test]
 fn states_up_to_128_and_past_them() {
     let mut comparison = Comparison::new(5);
@@ -267,23 +256,6 @@ fn states_up_to_128_and_past_them() {
     }
     comparison.report("states up to 128 and past them");
     assert_eq!(comparison.queries.with(8), 3);
-}
-
-/// Four constants, and produced orders over other columns that they go into.
-/// The last column of so many of them adds a node each; two of them give 256.
-fn constants_among_produced(triples: usize) -> Query {
-    let firsts = (4..7).flat_map(|first| [7, 8].map(|second| vec![first, second]));
-    let mut produced: Vec<Vec<u8>> = firsts.collect();
-    for order in &mut produced[..triples] {
-        order.push(9);
-    }
-    Query {
-        columns: 10,
-        produced,
-        tested: vec![vec![0, 1, 2], vec![3]],
-        sets: 1,
-        dependencies: (0..4).map(|c| Dependency::fix(0, &[], c)).collect(),
-    }
 }
 
 #[test]

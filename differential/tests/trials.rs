@@ -1,14 +1,13 @@
 //! Every file of the folder trials/: the listing program prints what the second
 //! implementation lists, and what the file says.
 
-use std::io::Write;
 use std::path::Path;
-use std::process::{Command, Stdio};
 
 use differential::trials::{self, Trial};
 use differential::{codes, proved};
 use order_tables::{LONGEST_TABLE, SCRATCH_BYTES};
 use reference::builder::build_table;
+use reference::program;
 
 /// How many trials there are at least.
 const TRIALS: usize = 26;
@@ -20,17 +19,7 @@ fn printed(query: &[u8]) -> String {
         path.is_file(),
         "target/bin/order_listing is missing: `rt check order_listing` makes it"
     );
-    let mut program = Command::new(path)
-        .stdin(Stdio::piped())
-        .stdout(Stdio::piped())
-        .spawn()
-        .expect("the program starts");
-    let mut input = program.stdin.take().expect("the input is a pipe");
-    input.write_all(query).expect("the program reads its input");
-    drop(input);
-    let output = program.wait_with_output().expect("the program ends");
-    assert!(output.status.success(), "the program ends without failure");
-    String::from_utf8(output.stdout).expect("a listing is text")
+    program::printed(&path, query)
 }
 
 /// The length of the table that the proved library builds, if it builds one.

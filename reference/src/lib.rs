@@ -10,7 +10,8 @@
 //! [`table`] writes them down and looks them up. [`builder`] and [`mod@listing`]
 //! join these. [`model`] answers the same lookups without a table, uncut, and
 //! [`rows`] says what the answers mean for rows. [`random`] and [`samples`]
-//! make repeatable random queries, lists of lookups and rows.
+//! make repeatable random queries, lists of lookups and rows; [`program`] runs a
+//! listing program.
 
 pub mod builder;
 pub mod construction;
@@ -19,6 +20,7 @@ pub mod listing;
 pub mod lookups;
 pub mod model;
 pub mod node_set;
+pub mod program;
 pub mod query;
 pub mod random;
 pub mod refusal;

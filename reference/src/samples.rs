@@ -1,4 +1,5 @@
-//! The listing's example, and random queries, lists of lookups and rows.
+//! The listing's example, queries at the limits, and random queries, lists of
+//! lookups and rows.
 
 use std::collections::HashSet;
 
@@ -81,6 +82,38 @@ impl Shape {
         sets: 3,
         dependencies: 6,
     };
+}
+
+/// Produced (a), and per set its own b fixed by a, with (a,b) tested: any choice
+/// of sets is a state.
+pub fn own_column_per_set(sets: u8) -> Query {
+    Query {
+        columns: 12,
+        produced: vec![vec![0]],
+        tested: (1..=sets).map(|b| vec![0, b]).collect(),
+        sets,
+        dependencies: (0..sets)
+            .map(|set| Dependency::fix(set, &[0], set + 1))
+            .collect(),
+    }
+}
+
+/// Four constants, and produced orders over other columns that they go into:
+/// 41 nodes without those columns, 45 for each of three first columns, 13 for
+/// each of six pairs and 1 for each triple, of which two give 256.
+pub fn constants_among_produced(triples: usize) -> Query {
+    let pairs = (4..7).flat_map(|first| [7, 8].map(|second| vec![first, second]));
+    let mut produced: Vec<Order> = pairs.collect();
+    for order in &mut produced[..triples] {
+        order.push(9);
+    }
+    Query {
+        columns: 10,
+        produced,
+        tested: vec![vec![0, 1, 2], vec![3]],
+        sets: 1,
+        dependencies: (0..4).map(|c| Dependency::fix(0, &[], c)).collect(),
+    }
 }
 
 /// A random query that passes the checks 1 to 6.

@@ -1,23 +1,13 @@
 //! The listing program, run as one.
 
-use std::io::Write;
-use std::process::{Command, Stdio};
+use std::path::Path;
 
+use reference::program;
 use reference::samples::{EXAMPLE_LISTING, EXAMPLE_QUERY};
 
 /// What the program prints for a query on standard input.
 fn printed(query: &[u8]) -> String {
-    let mut program = Command::new(env!("CARGO_BIN_EXE_reference_listing"))
-        .stdin(Stdio::piped())
-        .stdout(Stdio::piped())
-        .spawn()
-        .expect("the program starts");
-    let mut input = program.stdin.take().expect("the input is a pipe");
-    input.write_all(query).expect("the program reads its input");
-    drop(input);
-    let output = program.wait_with_output().expect("the program ends");
-    assert!(output.status.success());
-    String::from_utf8(output.stdout).expect("a listing is text")
+    program::printed(Path::new(env!("CARGO_BIN_EXE_reference_listing")), query)
 }
 
 #[test]

@@ -5,7 +5,9 @@ mod common;
 use common::held_after;
 use reference::builder::{build_table, SCRATCH_BYTES};
 use reference::construction::{Construction, Limits};
-use reference::samples::{EXAMPLE_LISTING, EXAMPLE_QUERY, EXAMPLE_TABLE};
+use reference::samples::{
+    constants_among_produced, own_column_per_set, EXAMPLE_LISTING, EXAMPLE_QUERY, EXAMPLE_TABLE,
+};
 use reference::{build, listing, Built, Dependency, Query};
 
 /// A query with one produced order.
@@ -101,16 +103,6 @@ fn an_equal_gives_the_other_column_and_a_pair_of_fixes_does_not() {
     assert!(!held_after(&from_order(&[a], &[&[b]], 1, fixes), &[0], 1));
 }
 
-/// Produced (a), and per set its own b fixed by a, with (a,b) tested.
-fn own_column_per_set(sets: u8) -> Query {
-    let pairs: Vec<[u8; 2]> = (1..=sets).map(|b| [0, b]).collect();
-    let tested: Vec<&[u8]> = pairs.iter().map(|pair| pair.as_slice()).collect();
-    let dependencies = (0..sets)
-        .map(|set| Dependency::fix(set, &[0], set + 1))
-        .collect();
-    from_order(&[0], &tested, sets, dependencies)
-}
-
 #[test]
 fn seven_independent_sets_give_128_states() {
     let query = own_column_per_set(7).write();
@@ -174,30 +166,6 @@ fn seven_constants_give_260_nodes_and_refusal_7() {
     let built = build(&query.write(), &mut [0; SCRATCH_BYTES], &mut [0; 4096]);
     assert_eq!(built, Err(7));
     assert_eq!(listing_text(&query.write()), "refused 7\n");
-}
-
-/// Four constants, and produced orders over other columns that they go into:
-/// 41 nodes without those columns, 45 for each of three first columns, 13 for
-/// each of six pairs and 1 for each triple.
-fn constants_among_produced(triples: usize) -> Query {
-    let mut produced = vec![
-        vec![4, 7],
-        vec![4, 8],
-        vec![5, 7],
-        vec![5, 8],
-        vec![6, 7],
-        vec![6, 8],
-    ];
-    for order in &mut produced[..triples] {
-        order.push(9);
-    }
-    Query {
-        columns: 10,
-        produced,
-        tested: vec![vec![0, 1, 2], vec![3]],
-        sets: 1,
-        dependencies: (0..4).map(|c| Dependency::fix(0, &[], c)).collect(),
-    }
 }
 
 #[test]
