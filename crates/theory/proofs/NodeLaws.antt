@@ -62,14 +62,15 @@ change-set q (instead {a} {b} e g h) = let t = same-set q a b e in (t .0, instea
 step-set : (q : Query) {o r : Order} → Step (allRules q) o r → (n : ℕ) × Step (rulesOf q n) o r
 step-set q (at p c) = let t = change-set q c in (t .0, at p (t .1))
 
--- a member of the kept results is the kept part of a step's result
-pub member-kept-steps : (q : Query) (rs : List Rule) (o r : Order) → List·Memᴰ r (keptSteps q rs o) → (x : Order) × Step rs o x × (kept q x ≡ r)
-unfolding keptSteps
-member-kept-steps q rs o r m = let t = Memᴰ·of-map (kept q) (steps rs o) m in (t .0, member-step o (t .0) (t .1), t .2)
-
+-- the kept part of a step's result is a member of the kept results ..
 pub kept-steps-member : (q : Query) (rs : List Rule) (o x : Order) → Step rs o x → List·Memᴰ (kept q x) (keptSteps q rs o)
 unfolding keptSteps
 kept-steps-member q rs o x s = Memᴰ·map (kept q) (step-member o x s)
+
+-- .. and a member is the kept part of a step's result
+pub member-kept-steps : (q : Query) (rs : List Rule) (o r : Order) → List·Memᴰ r (keptSteps q rs o) → (x : Order) × Step rs o x × (kept q x ≡ r)
+unfolding keptSteps
+member-kept-steps q rs o r m = let t = Memᴰ·of-map (kept q) (steps rs o) m in (t .0, member-step o (t .0) (t .1), t .2)
 
 -- the computed closure of kept results is the relation's
 pub found-reach : (q : Query) (rs : List Rule) (start : List Order) (X : Orderings) → ((o : Order) → List·Memᴰ o start → X o) →
