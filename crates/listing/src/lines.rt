@@ -1,5 +1,4 @@
 // The lines of a listing, each written at a place of a text. Each hands back the place behind.
-ghost use mathlib.Core.Path.{_≡_};
 ghost use mathlib.Core.List.{map};
 ghost use Prim.Native.Nat.{_+_, _<_, _≤_};
 ghost use lib.ListN.{length};

@@ -7,6 +7,7 @@ use libc::STDIN_FILENO;
 use libc::STDOUT_FILENO;
 ghost use Prim.Native.Nat.{_≤_};
 ghost use lib.ListN.{length};
+ghost use Rattle.query_listing.specs.Listed.{longestListing};
 ghost use Rattle.order_listing.specs.Input.{Within, Lists};
 
 // How many bytes of input there are, up to a buffer's length, or that a read failed.
@@ -36,7 +37,7 @@ fn read_front(buffer: &mut [u8]) -> Input
 
 // The listing of an input, of which its first 256 bytes are given; how many bytes of the text it takes.
 fn answer(front: &[u8], text: &mut [u8]) -> usize
-    requires { ⌜ 9897 ≤ length (now text) ⌝ }
+    requires { ⌜ longestListing ≤ length (now text) ⌝ }
     ensures { λ r. ⌜ Lists (now (front .entry)) (now (text .exit)) r ⌝ }
 {
     let mut scratch = [0u8; 16384];
@@ -46,7 +47,7 @@ fn answer(front: &[u8], text: &mut [u8]) -> usize
 
 // Prints the listing, and says whether all of it was written.
 fn print(front: &[u8]) -> bool {
-    let mut text = [0u8; 10240];
+    let mut text = [0u8; 7557];
     let length = answer(front, &mut text);
     io::write_all(STDOUT_FILENO, &text[..length])
 }

@@ -1,7 +1,7 @@
 // Refusals 1, 2, 1: fewer than five bytes; a size outside its limits; a total other than the sizes imply.
 use query::bytes;
 ghost use mathlib.Core.Path.{_≡_};
-ghost use Prim.Native.Nat.{_+_, _*_, _≤_};
+ghost use Prim.Native.Nat.{_+_, _*_};
 ghost use Rattle.theory.specs.Query.{outside, sizesRefusal};
 ghost use Rattle.query_check.specs.Sizes.{sizesOf};
 

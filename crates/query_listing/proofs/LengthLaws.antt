@@ -1,21 +1,34 @@
--- No listing is longer than 9,897 bytes: each number in it has at most five digits.
-use Prim.Native.Nat.{ℕ, zero, suc, _+_, _*_, _/_, _≤_}
+-- No table is longer than 1,292 bytes, so that a listing's build never runs out of room. No listing is longer than 7,557 bytes: the numbers in it have at
+-- most three digits, and the held bits at most five.
+use Prim.Native.Nat.{ℕ, zero, suc, _+_, _*_, _/_, _≤_, _<_}
 use native.Mathlib.Nat.{suc-mul, mul-le-mul-right, le-trans}
 use native.Mathlib.Omega.{arith}
-use mathlib.Core.Path.{_≡_, refl}
+use mathlib.Core.Path.{_≡_, refl, subst}
 use mathlib.Core.Bool.{Bool, true, false}
-use mathlib.Core.List.{List, [], _∷_, _++_, map}
+use mathlib.Core.List.{List, [], _∷_, _++_, map, List·Memᴰ, List·Memᴰ·head, List·Memᴰ·tail}
 use lib.Dec.{ltb}
 use lib.ListN.{length, length-append, length-take}
-use Rattle.theory.specs.Tests.{pick, concat, upFrom}
-use Rattle.theory.specs.Query.{Bytes}
+use Rattle.theory.specs.Tests.{pick, concat, upFrom, Says, holds, fails}
+use Rattle.theory.specs.Query.{Bytes, readQuery, queryRefusal}
+use Rattle.theory.specs.Refusals.{passed}
+use Rattle.theory.specs.Closure.{More}
+use Rattle.theory.specs.Construction.{Node, State, nodes, maxNodes, maxStates}
 use Rattle.theory.specs.Table.{statesIn, producedIn, setsIn, startIn, rowIn}
-use Rattle.theory.specs.Build.{Outcome, refused, built, outcome, scratchLength}
+use Rattle.theory.specs.Build.{Outcome, refused, built, tableBytes, outcome, scratchLength}
 use Rattle.theory.specs.Listing.{digits, decimal, refusedWord, statesWord, nodesWord, startWord, stateWord, nextWord, heldWord, lineEnd, spaced, heldNumber, countsLine, startLine, stateLine, tableListing, listed, longestTable, listing}
-use Rattle.theory.proofs.ListLaws.{upFrom-length}
-use Rattle.theory.proofs.DemandThree.{built-facts}
+use Rattle.theory.specs.Lookups.{Faithful}
+use Rattle.theory.proofs.Reflect.{says-ltb}
+use Rattle.theory.proofs.ListLaws.{upFrom-length, member-upFrom, getD-member}
+use Rattle.theory.proofs.DemandThree.{Built, built-table, built-facts, built-faithful}
 use Rattle.table.specs.Form.{Formed}
+use Rattle.table.proofs.FormLaws.{formed-short}
 use Rattle.builder.proofs.AnswerLaws.{built-formed}
+use Rattle.query_listing.specs.Listed.{longestListing}
+
+-- a query that passes its checks, with nodes and states within the limits, is not refused for the room of the longest table
+pub table-room : (query : Bytes) → queryRefusal query ≡ passed → ¬ More maxNodes (Node (readQuery query)) → ¬ More maxStates (State (readQuery query) (nodes (readQuery query))) →
+    length (tableBytes (readQuery query)) ≤ longestTable
+table-room query c k m = formed-short (built-formed (built-table query c k m))
 
 -- The bytes are at most so many.
 pub record Short (l : Bytes) (most : ℕ) : Type 0 where
@@ -29,14 +42,15 @@ joined : {x y : Bytes} {m n : ℕ} → Short x m → Short y n → Short (x ++ y
 joined s t = record { short = rw length-append (omega arith) }
 
 -- at most k pieces, each of at most w bytes
-pieces : (piece : ℕ → Bytes) (w : ℕ) → ((x : ℕ) → Short (piece x) w) → (l : List ℕ) → length (concat (map piece l)) ≤ length l * w
-pieces piece w h [] = omega arith
-pieces piece w h (x ∷ l) = rw (suc-mul, length-append) (omega (arith, h x .short, pieces piece w h l))
+pieces : (piece : ℕ → Bytes) (w : ℕ) (l : List ℕ) → ((x : ℕ) → List·Memᴰ x l → Short (piece x) w) → length (concat (map piece l)) ≤ length l * w
+pieces piece w [] h = omega arith
+pieces piece w (x ∷ l) h =
+    rw (suc-mul, length-append) (omega (arith, h x (List·Memᴰ·head refl) .short, pieces piece w l (λ y m. h y (List·Memᴰ·tail m))))
 
-some-pieces : {piece : ℕ → Bytes} {w : ℕ} (k : ℕ) (l : List ℕ) → ((x : ℕ) → Short (piece x) w) → length l ≤ k → Short (concat (map piece l)) (k * w)
-some-pieces {piece} {w} k l h m = record { short = le-trans (pieces piece w h l) (mul-le-mul-right w m) }
+some-pieces : {piece : ℕ → Bytes} {w : ℕ} (k : ℕ) (l : List ℕ) → ((x : ℕ) → List·Memᴰ x l → Short (piece x) w) → length l ≤ k → Short (concat (map piece l)) (k * w)
+some-pieces {piece} {w} k l h m = record { short = le-trans (pieces piece w l h) (mul-le-mul-right w m) }
 
--- a number
+-- a number: at most as many digits as are counted, and at most j + 1 where it is below the power j + 1 of ten
 digits-short : (k n : ℕ) → Short (digits k n) k
 digits-short zero n = record { short = omega arith }
 digits-short (suc k) n = record { short = rw length-append (go (ltb n 10) (digits-short k (n / 10))) }
@@ -45,45 +59,80 @@ digits-short (suc k) n = record { short = rw length-append (go (ltb n 10) (digit
     go true h = omega arith
     go false h = omega arith
 
-number : (n : ℕ) → Short (decimal n) 5
-number n = digits-short 5 n
+abbrev power : ℕ → ℕ
+power zero = 1
+power (suc j) = 10 * power j
 
-spaced-number : (n : ℕ) → Short (spaced n) 6
-spaced-number n = joined (word (32 ∷ [])) (number n)
+digits-few : (k j n : ℕ) → n < power (suc j) → Short (digits k n) (suc j)
+digits-few zero j n h = record { short = omega arith }
+digits-few (suc k) j n h = record { short = rw length-append (go j h (λ i. digits-few k i (n / 10)) (says-ltb n 10)) }
+  where
+    go : (j : ℕ) → n < power (suc j) → ((i : ℕ) → n / 10 < power (suc i) → Short (digits k (n / 10)) (suc i)) →
+        {t : Bool} → Says (n < 10) t → length (pick t [] (digits k (n / 10))) + 1 ≤ suc j
+    go j h rest (holds l) = omega arith
+    go zero h rest (fails f) = absurd (f (omega arith))
+    go (suc j) h rest (fails f) = omega (arith, rest j (omega arith) .short)
 
--- the lines
-counts-short : (t : Bytes) (n : ℕ) → Short (countsLine t n) 25
-unfolding countsLine
-counts-short t n = joined (word statesWord) (joined (number (statesIn t)) (joined (word nodesWord) (joined (number n) (word lineEnd))))
+number : (n : ℕ) → n < 1000 → Short (decimal n) 3
+number n h = digits-few 5 2 n h
 
-start-short : (t : Bytes) (p : ℕ) → Short (startLine t p) 18
-unfolding startLine
-start-short t p = joined (word startWord) (joined (number p) (joined (spaced-number (startIn t p)) (word lineEnd)))
-
-state-short : (t : Bytes) → setsIn t ≤ 8 → (state : ℕ) → Short (stateLine t state) 76
-unfolding stateLine
-state-short t h state =
-    let row : length (rowIn t state) ≤ 8 = rw length-take (omega arith) in
-    joined (word stateWord)
-    (joined (number state)
-    (joined (word nextWord)
-    (joined (some-pieces 8 (rowIn t state) spaced-number row) (joined (word heldWord) (joined (number (heldNumber t state)) (word lineEnd))))))
+spaced-number : (n : ℕ) → n < 1000 → Short (spaced n) 4
+spaced-number n h = joined (word (32 ∷ [])) (number n h)
 
 refusal-short : (n : ℕ) → Short (listed (refused n)) 14
-refusal-short n = joined (word refusedWord) (joined (number n) (word lineEnd))
+refusal-short n = joined (word refusedWord) (joined (digits-short 5 n) (word lineEnd))
 
-table-short : {t : Bytes} → Formed t → (n : ℕ) → Short (tableListing t n) 9897
-unfolding tableListing
-table-short {t} f n =
-    joined (counts-short t n)
-    (joined (some-pieces 8 (upFrom 0 (producedIn t)) (start-short t) (rw upFrom-length (f .few-produced)))
-    (some-pieces 128 (upFrom 0 (statesIn t)) (state-short t (f .few-sets)) (rw upFrom-length (f .few-states))))
+-- the lines of a table that was built
+module _ {query t : Bytes} {n : ℕ} (b : Built query t n) where
+  f : Formed t
+  f = built-formed b
+
+  faithful : Faithful (readQuery query) t
+  faithful = built-faithful b
+
+  counts-short : Short (countsLine t n) 21
+  unfolding countsLine
+  counts-short =
+      joined (word statesWord)
+      (joined (number (statesIn t) (omega (arith, f .few-states)))
+      (joined (word nodesWord) (joined (number n (omega (arith, b .count-is, b .few-nodes))) (word lineEnd))))
+
+  start-short : (p : ℕ) → p < producedIn t → Short (startLine t p) 14
+  unfolding startLine
+  start-short p h =
+      joined (word startWord)
+      (joined (number p (omega (arith, f .few-produced)))
+      (joined (spaced-number (startIn t p) (omega (arith, f .few-states, faithful .start-below p h))) (word lineEnd)))
+
+  -- a number in a state's row is a state
+  row-below : (state x : ℕ) → state < statesIn t → List·Memᴰ x (rowIn t state) → x < 1000
+  row-below state x h m =
+      let at = getD-member 0 m in
+      let few : at .0 < setsIn t = let k : length (rowIn t state) ≤ setsIn t = rw length-take (omega arith) in omega (arith, at .1) in
+      subst (λ y. y < 1000) (at .2) (omega (arith, f .few-states, faithful .successor-below state (at .0) h few))
+
+  state-short : (state : ℕ) → state < statesIn t → Short (stateLine t state) 58
+  unfolding stateLine
+  state-short state h =
+      let row : length (rowIn t state) ≤ 8 = rw length-take (omega (arith, f .few-sets)) in
+      joined (word stateWord)
+      (joined (number state (omega (arith, f .few-states)))
+      (joined (word nextWord)
+      (joined (some-pieces 8 (rowIn t state) (λ x m. spaced-number x (row-below state x h m)) row)
+      (joined (word heldWord) (joined (digits-short 5 (heldNumber t state)) (word lineEnd))))))
+
+  table-short : Short (tableListing t n) longestListing
+  unfolding tableListing
+  table-short =
+      joined counts-short
+      (joined (some-pieces 8 (upFrom 0 (producedIn t)) (λ p m. start-short p (omega (arith, member-upFrom 0 (producedIn t) m .1))) (rw upFrom-length (f .few-produced)))
+      (some-pieces 128 (upFrom 0 (statesIn t)) (λ state m. state-short state (omega (arith, member-upFrom 0 (statesIn t) m .1))) (rw upFrom-length (f .few-states))))
 
 -- Every query's listing.
-pub listing-short : (query : Bytes) → length (listing query) ≤ 9897
+pub listing-short : (query : Bytes) → length (listing query) ≤ longestListing
 unfolding listing
 listing-short query = go (outcome query scratchLength longestTable) refl
   where
-    go : (o : Outcome) → outcome query scratchLength longestTable ≡ o → length (listed o) ≤ 9897
+    go : (o : Outcome) → outcome query scratchLength longestTable ≡ o → length (listed o) ≤ longestListing
     go (refused n) e = le-trans (refusal-short n .short) (omega arith)
-    go (built t n) e = table-short (built-formed (built-facts query scratchLength longestTable t n e)) n .short
+    go (built t n) e = table-short (built-facts query scratchLength longestTable t n e) .short

@@ -9,11 +9,11 @@ use borrow.Author.Tests.{le-ltb}
 use Rattle.theory.specs.Query.{Bytes}
 use Rattle.theory.specs.Build.{scratchLength}
 use Rattle.theory.specs.Listing.{listing}
-use Rattle.query_listing.specs.Listed.{listRefusal, answerOf, textAfter, Listing}
+use Rattle.query_listing.specs.Listed.{longestListing, listRefusal, answerOf, textAfter, Listing}
 use Rattle.query_listing.specs.declared.Listed.{Listed}
 use Rattle.query_listing.proofs.LengthLaws.{listing-short}
 
-module _ (query text : Bytes) (n : ℕ) (s : scratchLength ≤ n) (t : 9897 ≤ length text) where
+module _ (query text : Bytes) (n : ℕ) (s : scratchLength ≤ n) (t : longestListing ≤ length text) where
   -- no refusal comes, with n bytes of scratch
   room : listRefusal query n (length text) ≡ 0
   unfolding listRefusal

@@ -11,6 +11,10 @@ use Rattle.theory.specs.Build.{scratchLength, zeroed}
 use Rattle.theory.specs.Listing.{listing}
 use Rattle.query_listing.specs.declared.Listed.{Listed}
 
+-- The longest listing: 21 bytes of counts, 8 starts of 14, and 128 states of 58, with three digits for each number and five for the held bits.
+abbrev pub longestListing : ℕ
+longestListing = 7557
+
 -- A text that is lent for a listing takes it whole, or the refusal is 9.
 abbrev pub textRefusal : Bytes → ℕ → ℕ
 textRefusal l textLength = pick (ltb textLength (length l)) space-refused passed

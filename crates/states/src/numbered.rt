@@ -3,7 +3,7 @@ ghost use mathlib.Core.Path.{_≡_};
 ghost use Prim.Native.Nat.{_≤_};
 ghost use lib.ListN.{length};
 ghost use Rattle.theory.specs.Tests.{position};
-ghost use Rattle.closure.specs.Work.{Ready, stateRows, StatesFound};
+ghost use Rattle.closure.specs.Work.{stateRows};
 ghost use Rattle.states.specs.States.{sameRow, Placed};
 
 // A state's number, and how many states are numbered.

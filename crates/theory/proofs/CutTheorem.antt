@@ -2,7 +2,7 @@
 use Prim.Native.Nat.{ℕ}
 use mathlib.Core.Path.{_≡_, sym, subst}
 use mathlib.Core.Bool.{Bool}
-use mathlib.Core.Logic.{_⊎_, ⊎-elim, ⊎-map, _↔_}
+use mathlib.Core.Logic.{⊎-elim, ⊎-map, _↔_}
 use mathlib.Core.List.{List, [], _∷_, map, List·Memᴰ, List·Memᴰ·head, List·Memᴰ·tail, List·Memᴰ·cases-cons, Memᴰ·append-left, Memᴰ·of-map}
 use Rattle.theory.specs.Orders.{Order, Rule, Dependency, Query, interesting, rulesIn, rulesOf, allRules, After, Same, Start}
 use Rattle.theory.specs.Tests.{Says, holds, fails, pick}

@@ -8,7 +8,8 @@ use lib.ListN.{length, length-map}
 use borrow.Author.Tests.{ltb-false}
 use Rattle.theory.specs.Tests.{upFrom}
 use Rattle.theory.specs.Orders.{Order}
-use Rattle.theory.specs.Construction.{nodes, states, maxNodes, maxStates}
+use Rattle.theory.specs.Closure.{More}
+use Rattle.theory.specs.Construction.{Node, State, nodes, states, maxNodes, maxStates}
 use Rattle.theory.specs.Refusals.{passed}
 use Rattle.theory.specs.Query.{Bytes, readQuery, orderAt, queryRefusal, producedCount, testedCount, setCount}
 use Rattle.theory.specs.Table.{tableOf, tableRefusal, readTable}
@@ -32,6 +33,19 @@ pub record Built (query t : Bytes) (n : ℕ) : Type 0 where
   pub bytes-are : t ≡ tableBytes (readQuery query)
   pub count-is : n ≡ length (nodes (readQuery query))
 
+-- the table of a query that passes its checks, with nodes and states within the limits
+pub built-table : (query : Bytes) → queryRefusal query ≡ passed → ¬ More maxNodes (Node (readQuery query)) → ¬ More maxStates (State (readQuery query) (nodes (readQuery query))) →
+    Built query (tableBytes (readQuery query)) (length (nodes (readQuery query)))
+built-table query c k m =
+    record {
+      checked = c;
+      few-nodes = ltb-false maxNodes (length (nodes (readQuery query))) (false-says (nodes-many (readQuery query)) k);
+      few-states = ltb-false maxStates (length (states (readQuery query) (nodes (readQuery query)))) (false-says (states-many (readQuery query) (nodes (readQuery query)) maxStates) m);
+      bytes-are = refl;
+      count-is = refl;
+    }
+
+-- .. and that of every build that gives one
 pub built-facts : (query : Bytes) (scratch output : ℕ) (t : Bytes) (n : ℕ) → outcome query scratch output ≡ built t n → Built query t n
 built-facts query scratch output t n e = go (outcome-means query scratch output) e
   where
@@ -45,13 +59,7 @@ built-facts query scratch output t n e = go (outcome-means query scratch output)
     go (many-states _ _ _ _) d = never d
     go (output-short _ _ _ _ _) d = never d
     go (table-built c s k m h) d =
-        record {
-          checked = c;
-          few-nodes = ltb-false maxNodes (length (nodes (readQuery query))) (false-says (nodes-many (readQuery query)) k);
-          few-states = ltb-false maxStates (length (states (readQuery query) (nodes (readQuery query)))) (false-says (states-many (readQuery query) (nodes (readQuery query)) maxStates) m);
-          bytes-are = cc;
-          count-is = cc;
-        }
+        let b = built-table query c k m in record { checked = c; few-nodes = b .few-nodes; few-states = b .few-states; bytes-are = cc; count-is = cc }
 
 -- the counts of orders are the sizes
 produced-count : (b : Bytes) → length (readQuery b .produced) ≡ producedCount b

@@ -75,7 +75,7 @@ module _ (q : Query) (fits : Fits q) where
         few-produced = fits .few-produced;
         few-tested = fits .few-tested;
         few-sets = fits .few-sets;
-        starts-count = length-map (q .produced) (λ p. number (startState ns p));
+        starts-count = length-map (q .produced) _;
         rows-count = length-map sts (λ ms. map (λ s. number (takeSet q ns ms s)) (setNumbers q));
         row-width = λ r m. let t = Memᴰ·of-map (λ ms. map (λ s. number (takeSet q ns ms s)) (setNumbers q)) sts m in
             ap length (sym (t .2)) ∙ length-map (setNumbers q) (λ s. number (takeSet q ns (t .0) s)) ∙ upFrom-length 0 (q .sets);
@@ -83,6 +83,14 @@ module _ (q : Query) (fits : Fits q) where
         held-width = λ r m. let t = Memᴰ·of-map (λ ms. map (λ o. holdsIn ns ms o) (interesting q)) sts m in
             ap length (sym (t .2)) ∙ length-map (interesting q) (λ o. holdsIn ns (t .0) o) ∙ length-append (q .produced) (q .tested);
       }
+
+  abbrev bytes : Bytes
+  bytes = writeTable table
+
+  -- a start as the table has it
+  start-number : (p : ℕ) → p < length (q .produced) → startIn bytes p ≡ number (startState ns (getD (q .produced) p []))
+  unfolding tableOf
+  start-number p h = written-start table sized p h ∙ getD-map (λ r. number (startState ns r)) (q .produced) p 0 [] h
 
   numbered : Numbered table
   unfolding tableOf
@@ -97,14 +105,7 @@ module _ (q : Query) (fits : Fits q) where
             subst (λ j. j < length sts) (u .2) (number-below (takeSet q ns (t .0) (u .0)) (next-state (t .0) (u .0) (is-state (t .0) .0 (t .1)) (omega arith)));
       }
 
-  abbrev bytes : Bytes
-  bytes = writeTable table
-
-  -- a start and a successor as the table has them
-  start-number : (p : ℕ) → p < length (q .produced) → startIn bytes p ≡ number (startState ns (getD (q .produced) p []))
-  unfolding tableOf
-  start-number p h = written-start table sized p h ∙ getD-map (λ r. number (startState ns r)) (q .produced) p 0 [] h
-
+  -- a successor as the table has it
   successor-number : (ms : Marks) (s : ℕ) → State q ns ms → s < q .sets → successorIn bytes (number ms) s ≡ number (takeSet q ns ms s)
   unfolding tableOf
   successor-number ms s st h =

@@ -2,7 +2,7 @@
 use Prim.Native.Nat.{ℕ, _≤_, _<_}
 use native.Mathlib.Omega.{arith}
 use mathlib.Core.Path.{_≡_, refl, _∙_, ap, subst}
-use mathlib.Core.Logic.{_⊎_, ⊎-elim, _↔_}
+use mathlib.Core.Logic.{⊎-elim, _↔_}
 use mathlib.Core.List.{List, [], _∷_, _++_, map, List·Memᴰ, List·Memᴰ·head, List·Memᴰ·tail, List·Memᴰ·not-nil, List·Memᴰ·eq-of-singleton, List·Memᴰ·append-cases, Memᴰ·map, Memᴰ·of-map}
 use lib.Dec.{ltb}
 use lib.ListN.{length}
@@ -51,11 +51,6 @@ module _ (q : Query) (ns : List Order) where
   state-found ms r = subst FoundState (r .reached) (takes-found (r .sets) (r .below) (startState ns (r .start)) (first (Memᴰ·map (startState ns) (r .produced))))
 
   module _ (cap : ℕ) where
-    -- each state once
-    pub states-distinct : Distinct (statesWithin cap q ns)
-    unfolding statesWithin
-    states-distinct = closure-distinct decides-marks successors cap (map (startState ns) (q .produced))
-
     -- within the limit, the list has exactly the states
     pub states-exactly : length (statesWithin cap q ns) ≤ cap → (ms : Marks) → List·Memᴰ ms (statesWithin cap q ns) ↔ State q ns ms
     unfolding statesWithin
@@ -63,6 +58,11 @@ module _ (q : Query) (ns : List Order) where
       λ m. found-state ms (closure-found decides-marks successors cap (map (startState ns) (q .produced)) ms m),
       λ r. closure-complete decides-marks successors cap (map (startState ns) (q .produced)) few ms (state-found ms r),
     )
+
+    -- each state once
+    pub states-distinct : Distinct (statesWithin cap q ns)
+    unfolding statesWithin
+    states-distinct = closure-distinct decides-marks successors cap (map (startState ns) (q .produced))
 
     -- past it exactly when there are more states
     pub states-many : Says (More cap (State q ns)) (ltb cap (length (statesWithin cap q ns)))
