@@ -1,5 +1,7 @@
--- Document 01's number and value for each case of the two answers, and that a refusal's number is never 0, which stands for none.
-use Prim.Native.Nat.{_<_}
+-- Document 01's number and value for each case of the two answers, that a refusal's number is never 0, which stands for none, and an answer as one number.
+use Prim.Native.Nat.{ℕ, _+_, _*_, _/_, _<_}
+use lib.Dec.{ltb}
+use Rattle.theory.specs.Tests.{pick}
 use Rattle.theory.specs.Table.{Answer, grant, refuse}
 use Rattle.lookup.specs.declared.Moved.{Moved}
 use Rattle.lookup.specs.declared.Moved.the-variants as moved
@@ -26,3 +28,11 @@ abbrev pub ListedAsk : Asked → Type 0
 ListedAsk asked.Held = Unit
 ListedAsk asked.NotHeld = Unit
 ListedAsk (asked.Refused n) = 0 < n
+
+-- A lookup's answer: the refusal's number times 65,536 plus the value, which is 0 on refusal.
+abbrev pub answerCode : Answer → ℕ
+answerCode a = a .refusal * 65536 + a .value
+
+-- The answer that such a number stands for.
+abbrev pub decoded : ℕ → Answer
+decoded n = pick (ltb n 65536) (grant n) (refuse (n / 65536))

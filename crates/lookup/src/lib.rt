@@ -1,9 +1,11 @@
 // Lookups in a table's bytes, whatever they are: each answers in constant time or refuses, and knows nothing of the query.
+pub mod codes;
+
 ghost use mathlib.Core.Path.{_≡_};
 ghost use Prim.Native.Nat.{_<_};
-ghost use Rattle.theory.specs.Table.{statesIn, heldBit, grant, grantState, enter, takeIn, ask, row, rowRefusal};
+ghost use Rattle.theory.specs.Table.{statesIn, heldBit, grant, enter, takeIn, ask, row, rowRefusal};
 ghost use Rattle.table.specs.Form.{Formed};
-ghost use Rattle.lookup.specs.Answers.{answerOf, heldOf, Listed, ListedAsk};
+ghost use Rattle.lookup.specs.Answers.{answerOf, heldOf, Listed, ListedAsk, decoded};
 use table::OrderHandle;
 use table::SetHandle;
 use table::StateNumber;
@@ -26,31 +28,18 @@ pub enum Asked {
     Refused(u8),
 }
 
-// A state that was read from the table: 11 where it is not below Q.
-fn granted(table: &[u8], state: u8) -> Moved
-    ensures { λ r. ⌜ answerOf r ≡ grantState (now (table .entry)) state ⌝ }
+// The answer that a number of `codes` stands for: a state where it is below 65,536, else a refusal.
+fn decoded(code: u32) -> Moved
+    requires { ⌜ (code < 16777216) × (code < 65536 → code < 256) ⌝ }
+    ensures { λ r. ⌜ answerOf r ≡ decoded code ⌝ }
     ensures { λ r. ⌜ Listed r ⌝ }
 {
-    if (state as usize) < table::states(table) {
+    if code < 65536 {
         Moved::To(Mark {
-            state: StateNumber(state),
+            state: StateNumber(code as u8),
         })
     } else {
-        Moved::Refused(table::ROW_REFUSED)
-    }
-}
-
-// An entry, once the form has passed: 10, then 11.
-fn enter_formed(table: &[u8], order: OrderHandle) -> Moved
-    requires { ⌜ Formed (now table) ⌝ }
-    ensures { λ r. ⌜ answerOf r ≡ enter (now (table .entry)) (order .0) ⌝ }
-    ensures { λ r. ⌜ Listed r ⌝ }
-{
-    let p = order.0 as usize;
-    if p < table::produced(table) {
-        granted(table, table[4 + p])
-    } else {
-        Moved::Refused(table::HANDLE_REFUSED)
+        Moved::Refused((code / 65536) as u8)
     }
 }
 
@@ -59,29 +48,7 @@ pub fn enter(table: &[u8], order: OrderHandle) -> Moved
     ensures { λ r. ⌜ answerOf r ≡ enter (now (table .entry)) (order .0) ⌝ }
     ensures { λ r. ⌜ Listed r ⌝ }
 {
-    let refusal = table::form(table);
-    if refusal != table::PASSED {
-        return Moved::Refused(refusal);
-    }
-    enter_formed(table, order)
-}
-
-// A take, once the form has passed: 10, then 11.
-fn take_formed(table: &[u8], state: StateNumber, set: SetHandle) -> Moved
-    requires { ⌜ Formed (now table) ⌝ }
-    ensures { λ r. ⌜ answerOf r ≡ takeIn (now (table .entry)) (state .0) (set .0) ⌝ }
-    ensures { λ r. ⌜ Listed r ⌝ }
-{
-    let q = state.0 as usize;
-    let s = set.0 as usize;
-    if table::states(table) <= q {
-        return Moved::Refused(table::HANDLE_REFUSED);
-    }
-    if table::sets(table) <= s {
-        return Moved::Refused(table::HANDLE_REFUSED);
-    }
-    let row = table::successors(table, q);
-    granted(table, row[s])
+    decoded(codes::enter(table, order))
 }
 
 // The held bit of an interesting order in a state.
@@ -122,11 +89,7 @@ impl Mark {
         ensures { λ r. ⌜ answerOf r ≡ takeIn (now (table .entry)) (self .state .0) (set .0) ⌝ }
         ensures { λ r. ⌜ Listed r ⌝ }
     {
-        let refusal = table::form(table);
-        if refusal != table::PASSED {
-            return Moved::Refused(refusal);
-        }
-        take_formed(table, self.state, set)
+        decoded(codes::take(table, self.state, set))
     }
 
     // Ask whether an interesting order is held: 1, 2, 1, then 10.

@@ -10,15 +10,12 @@ use Rattle.theory.specs.Query.{Bytes}
 use Rattle.theory.specs.Build.{Outcome, refused, built}
 use Rattle.theory.specs.Listing.{listing}
 use Rattle.query_listing.specs.Listed.{answerOf, listRefusal}
-use Rattle.theory.specs.Table.{Answer, setsIn, successorsBase, rowRefusal}
+use Rattle.theory.specs.Table.{refuse, setsIn, successorsBase, rowRefusal}
+use Rattle.lookup.specs.Answers.{answerCode}
 
--- A refusal's number times 65,536.
+-- A refusal, or none: its number, with the value 0.
 abbrev pub refusedCode : ℕ → ℕ
-refusedCode n = n * 65536
-
--- A lookup's answer: the refusal's number times 65,536 plus the value, which is 0 on refusal.
-abbrev pub answerCode : Answer → ℕ
-answerCode a = a .refusal * 65536 + a .value
+refusedCode n = answerCode (refuse n)
 
 -- A build's: the table's length, or the refusal.
 abbrev pub buildCode : Outcome → ℕ

@@ -1,7 +1,7 @@
 // The functions for C and Rust. A build, a listing, a table check and a lookup return the refusal's number times 65,536 plus a value, which is 0 on refusal.
 use lookup::Asked;
 use lookup::Mark;
-use lookup::Moved;
+use lookup::codes;
 use orders::Order;
 use orders::Rule;
 use table::OrderHandle;
@@ -14,35 +14,21 @@ ghost use Rattle.theory.specs.Table.{tableRefusal, enter, takeIn, ask};
 ghost use Rattle.theory.specs.Build.{outcome, outputAfter, scratchAfter};
 ghost use lib.ListN.{length};
 ghost use Rattle.orders.specs.Orders.{orderOf, ruleIs};
-ghost use Rattle.lookup.specs.Answers.{answerOf, heldOf};
+ghost use Rattle.lookup.specs.Answers.{heldOf, answerCode};
 ghost use Rattle.theory.specs.Listing.{listing};
 ghost use Rattle.replay.specs.Replay.{lookupsAfter, Modelled};
 ghost use Rattle.query_listing.specs.Listed.{listRefusal, textAfter};
 ghost use Rattle.query_listing.specs.Listed as listed;
-ghost use Rattle.order_tables.specs.Codes.{refusedCode, answerCode, buildCode, listCode, rowCode, columnsCode, orderCode, kindCode, ruleColumns, dependencyCode};
+ghost use Rattle.order_tables.specs.Codes.{refusedCode, buildCode, listCode, rowCode, columnsCode, orderCode, kindCode, ruleColumns, dependencyCode};
 
-fn refused(n: u8) -> u32
-    ensures { λ r. ⌜ r ≡ refusedCode n ⌝ }
-{
-    n as u32 * 65536
-}
-
-fn moved(answer: Moved) -> u32
-    ensures { λ r. ⌜ r ≡ answerCode (answerOf answer) ⌝ }
-{
-    match answer {
-        Moved::To(mark) => mark.state.0 as u32,
-        Moved::Refused(n) => refused(n),
-    }
-}
-
+// An ask: 1 held, 0 not held, or the refusal.
 fn asked(answer: Asked) -> u32
     ensures { λ r. ⌜ r ≡ answerCode (heldOf answer) ⌝ }
 {
     match answer {
         Asked::Held => 1,
         Asked::NotHeld => 0,
-        Asked::Refused(n) => refused(n),
+        Asked::Refused(n) => codes::refused(n),
     }
 }
 
@@ -99,7 +85,7 @@ pub extern "C" fn order_table_list(query: &[u8], scratch: &mut [u8], text: &mut 
 pub extern "C" fn order_table_check(table: &[u8]) -> u32
     ensures { λ r. ⌜ r ≡ refusedCode (tableRefusal (now (table .entry))) ⌝ }
 {
-    refused(table::check(table))
+    codes::refused(table::check(table))
 }
 
 // Enter by a produced order: the state.
@@ -107,7 +93,7 @@ pub extern "C" fn order_table_check(table: &[u8]) -> u32
 pub extern "C" fn order_table_enter(table: &[u8], produced: u8) -> u32
     ensures { λ r. ⌜ r ≡ answerCode (enter (now (table .entry)) produced) ⌝ }
 {
-    moved(lookup::enter(table, OrderHandle(produced)))
+    codes::enter(table, OrderHandle(produced))
 }
 
 // Take a set in a state: the next state.
@@ -115,10 +101,7 @@ pub extern "C" fn order_table_enter(table: &[u8], produced: u8) -> u32
 pub extern "C" fn order_table_take(table: &[u8], state: u8, set: u8) -> u32
     ensures { λ r. ⌜ r ≡ answerCode (takeIn (now (table .entry)) state set) ⌝ }
 {
-    let mark = Mark {
-        state: StateNumber(state),
-    };
-    moved(mark.take(table, SetHandle(set)))
+    codes::take(table, StateNumber(state), SetHandle(set))
 }
 
 // Ask whether an interesting order is held in a state: 1 held, 0 not held.
@@ -148,7 +131,7 @@ pub extern "C" fn order_table_row(table: &[u8], state: u8) -> u32
     let mut refusal: u8 = 0;
     lookup::row_of(table, StateNumber(state), &mut refusal);
     if refusal != table::PASSED {
-        return refused(refusal);
+        return codes::refused(refusal);
     }
     offset(table::produced(table), state as usize, table::sets(table))
 }
@@ -158,7 +141,7 @@ pub extern "C" fn order_table_row(table: &[u8], state: u8) -> u32
 pub extern "C" fn order_query_check(query: &[u8]) -> u32
     ensures { λ r. ⌜ r ≡ refusedCode (queryRefusal (now (query .entry))) ⌝ }
 {
-    refused(query_check::check(query))
+    codes::refused(query_check::check(query))
 }
 
 // The columns of an order, a byte each.

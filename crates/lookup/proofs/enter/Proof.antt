@@ -1,25 +1,18 @@
--- `lookup::enter` meets its contract: a refused form refuses, and a form that passes is what the rest requires.
-use native.Mathlib.Omega.{arith}
-use mathlib.Core.Path.{sym, _∙_}
+-- `lookup::enter` meets its contract: the number that `codes` gives is read back.
+use mathlib.Core.Path.{_∙_}
 use borrow.Author.Needs.{needs}
-use Rattle.theory.specs.Table.{enter}
-use Rattle.table.proofs.FormLaws.{formed}
-use Rattle.lookup.proofs.LookupLaws.{form-refuses}
+use Rattle.lookup.proofs.CodeLaws.{code-fits, code-read, plain-enter}
 use Rattle.lookup.proofs.enter.Statement.{statement}
 use Rattle.lookup.proofs.enter.Tie as tie
 
-form-requires : tie.Need-form-requires
-form-requires c κs = search needs
+enter-requires : tie.Need-enter-requires
+enter-requires c κs = search needs
+
+decoded-requires : tie.Need-decoded-requires
+decoded-requires c κs = code-fits (plain-enter _ _) (c .enter .ensures)
 
 returns : tie.Need-returns
-unfolding enter
-returns c = (form-refuses _ _ (c .before .form .ensures) (c .if1 .taken), omega arith)
-
-enter-formed-requires : tie.Need-enter-formed-requires
-enter-formed-requires c κs = formed _ (sym (c .before .form .ensures) ∙ c .if1 .left)
-
-returns-2 : tie.Need-returns-2
-returns-2 c = search needs
+returns c = (c .decoded .ensures .0 ∙ code-read (plain-enter _ _) (c .before .enter .ensures), c .decoded .ensures .1)
 
 pub enter-spec : {M : Type 1} → statement M
-enter-spec = tie.close (tie.spec form-requires returns enter-formed-requires returns-2)
+enter-spec = tie.close (tie.spec enter-requires decoded-requires returns)

@@ -1,6 +1,6 @@
 -- `order_tables::order_table_ask` meets its contract: the lookup's answer as one number.
 use mathlib.Core.Path.{_∙_, ap}
-use Rattle.order_tables.specs.Codes.{answerCode}
+use Rattle.lookup.specs.Answers.{answerCode}
 use borrow.Author.Needs.{needs}
 use Rattle.order_tables.proofs.order_table_ask.Statement.{statement}
 use Rattle.order_tables.proofs.order_table_ask.Tie as tie
