@@ -8,7 +8,7 @@ use mathlib.Core.Bool.{Bool, true, false}
 use mathlib.Core.List.{List, [], _∷_, map, List·Memᴰ, List·Memᴰ·head, List·Memᴰ·tail, Memᴰ·of-map}
 use lib.Dec.{eqb}
 use lib.ListN.{length, take, drop, getD, length-map, length-drop, drop-of-length-le, List·getD-eq-default}
-use lib.Seq.{length-take-le, drop-cons}
+use lib.Seq.{drop-cons}
 use Rattle.theory.specs.Tests.{Says, holds, fails, Distinct, also, pick, member, position, upFrom}
 use Rattle.theory.specs.Orders.{Order, sameOrder, allRules, interesting}
 use Rattle.theory.specs.Construction.{Marks, marked, nodes, maxNodes, steps, kept, keptSteps, holdsIn}
@@ -24,7 +24,7 @@ use Rattle.query.proofs.ReadLaws.{interesting-at, interesting-count}
 use Rattle.derivation.specs.Keys.{keyOf, Small}
 use Rattle.nodes.specs.Nodes.{Prepared}
 use Rattle.derivation.proofs.KeyLaws.{key-injective}
-use Rattle.nodes.proofs.NodeKeys.{produced-small, kept-small}
+use Rattle.nodes.proofs.NodeKeys.{produced-small, kept-small, nodes-count}
 use Rattle.closure.specs.Work.{packMarks, nodesOf}
 use Rattle.closure.specs.Marks.{inMarks}
 use Rattle.builder.specs.Output.{NodesListed, holdsKey, keyBits, heldBits}
@@ -96,9 +96,7 @@ nodes-small b w l p =
 module _ (b : Bytes) (array : List ℕ) (n : ℕ) (listed : NodesListed b array n) where
   -- there are n nodes
   pub node-count : length (nodesOf b) ≡ n
-  node-count =
-      let h = listed .ready .listed in
-      sym (length-map (nodesOf b) keyOf) ∙ ap length (sym (h .keys)) ∙ length-take-le n array (omega (arith, h .few, h .room))
+  node-count = nodes-count (listed .ready .listed)
 
   -- an order is held where its key is found and marked
   held-key : (ms : Marks) → length ms ≡ n → (o : Order) → Small o → holdsKey n (take n array) (packMarks ms) (keyOf o) ≡ holdsIn (nodesOf b) ms o

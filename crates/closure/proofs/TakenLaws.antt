@@ -6,7 +6,6 @@ use mathlib.Core.Bool.{true, false}
 use mathlib.Core.Logic.{_↔_}
 use mathlib.Core.List.{List, [], map, List·Memᴰ, Memᴰ·cast, Memᴰ·map, Memᴰ·of-map}
 use lib.ListN.{length, getD, take, length-map}
-use lib.Seq.{length-take-le}
 use Rattle.theory.specs.Orders.{Order, Orderings, Query, rulesOf, allRules, Step, Reach, given, step}
 use Rattle.theory.specs.Closure.{Found, first, next}
 use Rattle.theory.specs.Construction.{kept, keptSteps, Node, Marks, marked, takeSet}
@@ -17,7 +16,7 @@ use Rattle.theory.proofs.StateLaws.{take-exactly}
 use Rattle.query.proofs.PassedLaws.{query-passed}
 use Rattle.derivation.specs.Keys.{keyOf, Small, keySteps}
 use Rattle.derivation.proofs.KeyLaws.{key-injective}
-use Rattle.nodes.proofs.NodeKeys.{kept-small, produced-small, key-steps}
+use Rattle.nodes.proofs.NodeKeys.{kept-small, produced-small, key-steps, nodes-count}
 use Rattle.closure.specs.Work.{packMarks, Ready, nodesOf}
 use Rattle.closure.specs.Marks.{inMarks}
 use Rattle.closure.specs.Close.{Room, Visiting}
@@ -27,7 +26,8 @@ use Rattle.closure.proofs.GrownLaws.{Grown, grown-none, visited-grown}
 use Rattle.closure.proofs.TraceLaws.{key-count}
 use Rattle.closure.proofs.VisitLaws.{Done, visited-zero, visit-done}
 
-taken-length : (q : Query) (ns : List Order) (ms : Marks) (s : ℕ) → length (takeSet q ns ms s) ≡ length ns
+-- every state has a mark for each node
+pub taken-length : (q : Query) (ns : List Order) (ms : Marks) (s : ℕ) → length (takeSet q ns ms s) ≡ length ns
 unfolding takeSet
 taken-length q ns ms s = length-map ns _
 
@@ -45,8 +45,8 @@ module _ {b : Bytes} {nodes : List ℕ} {n w l : ℕ} (ready : Ready b nodes n w
   abbrev ks : List ℕ
   ks = map keyOf ns
 
-  pub node-count : length ns ≡ n
-  node-count = sym (length-map ns keyOf) ∙ ap length (sym (ready .listed .keys)) ∙ length-take-le n nodes (omega (arith, ready .listed .room, ready .listed .few))
+  node-count : length ns ≡ n
+  node-count = nodes-count (ready .listed)
 
   pub few-rules : dependencyCount b ≤ 16
   few-rules = query-passed b (ready .prepared .checked) .sized .few-dependencies

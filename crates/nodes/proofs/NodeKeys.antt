@@ -5,6 +5,7 @@ use native.Mathlib.Omega.{arith}
 use mathlib.Core.Path.{_≡_, refl, sym, _∙_, ap, subst}
 use mathlib.Core.List.{List, map, map-map, List·Memᴰ, List·Memᴰ·head, List·Memᴰ·tail, Memᴰ·append-left, Memᴰ·of-map}
 use lib.Dec.{eqb}
+use lib.ListN.{length, length-map, length-take}
 use Rattle.theory.specs.Orders.{Order, Rule, fix, equal, Dependency, allRules, sameOrder}
 use Rattle.theory.specs.Closure.{closure}
 use Rattle.theory.specs.Construction.{Wanted, asked, settles, equals, equals′, columnsOf, isWanted, keep, kept, steps, keptSteps, nodes, maxNodes}
@@ -16,7 +17,7 @@ use Rattle.query.specs.Passed.{Passed}
 use Rattle.query.proofs.PassedLaws.{query-passed}
 use Rattle.query.proofs.ReadLaws.{order-columns, dependency-columns}
 use Rattle.derivation.specs.Keys.{keyOf, Small, keySteps}
-use Rattle.nodes.specs.Nodes.{Prepared}
+use Rattle.nodes.specs.Nodes.{Prepared, NodesAre}
 use Rattle.derivation.proofs.KeepLaws.{keep-same, keep-length, keep-passes}
 use Rattle.derivation.proofs.KeyLaws.{key-order, key-injective}
 use Rattle.nodes.proofs.ClosureMap.{closure-map}
@@ -76,3 +77,7 @@ module _ (b : Bytes) (w n : ℕ) (p : Prepared b w n) where
   pub node-keys : closure eqb (keySteps w n (allRules (readQuery b))) maxNodes (map keyOf (readQuery b .produced)) ≡ map keyOf (nodes (readQuery b))
   unfolding nodes
   node-keys = key-closure (allRules (readQuery b)) maxNodes (readQuery b .produced) produced-small
+
+-- the keys that are listed are as many as the nodes
+pub nodes-count : {b : Bytes} {array : List ℕ} {n : ℕ} → NodesAre b array n → length (nodes (readQuery b)) ≡ n
+nodes-count {b} {array} {n} a = sym (length-map (nodes (readQuery b)) keyOf) ∙ ap length (sym (a .keys)) ∙ length-take n array ∙ omega (arith, a .room, a .few)

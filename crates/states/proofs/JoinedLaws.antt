@@ -3,34 +3,25 @@ use Prim.Native.Nat.{ℕ, _<_, _≤_}
 use native.Mathlib.Omega.{arith}
 use mathlib.Core.Path.{_≡_, sym, _∙_, ap}
 use mathlib.Core.List.{List, [], map, List·Memᴰ}
-use lib.ListN.{length, getD, length-map, length-take}
+use lib.ListN.{length, getD, length-map}
 use Rattle.theory.specs.Tests.{position}
 use Rattle.theory.specs.Orders.{Order}
 use Rattle.theory.specs.Closure.{add}
-use Rattle.theory.specs.Construction.{Marks, sameMarks, startState, takeSet, nodes}
-use Rattle.theory.specs.Query.{Bytes, rowAt, readQuery}
+use Rattle.theory.specs.Construction.{Marks, sameMarks, startState}
+use Rattle.theory.specs.Query.{Bytes, rowAt}
 use Rattle.theory.proofs.Reflect.{decides-order, decides-marks}
 use Rattle.theory.proofs.ListLaws.{member-getD}
 use Rattle.theory.proofs.RowLaws.{getD-map}
-use Rattle.derivation.specs.Keys.{keyOf}
-use Rattle.nodes.specs.Nodes.{NodesAre}
 use Rattle.closure.specs.Work.{packMarks, nodesOf, stateRows}
-use Rattle.states.specs.States.{sameRow, Placed, Listed, Joined, taken}
+use Rattle.states.specs.States.{sameRow, Placed, Listed, Joined}
 use Rattle.closure.proofs.MarkLaws.{pack-injective}
 use Rattle.states.proofs.PositionLaws.{position-map, add-map, add-all}
 use Rattle.states.proofs.StateRows.{rows-count, rows-at}
 
 -- every state has a mark for each node
-pub taken-length : (b : Bytes) (ms : Marks) (s : ℕ) → length (taken b ms s) ≡ length (nodesOf b)
-unfolding takeSet
-taken-length b ms s = length-map (nodesOf b) _
-
 pub start-length : (b : Bytes) (p : Order) → length (startState (nodesOf b) p) ≡ length (nodesOf b)
 unfolding startState
 start-length b p = length-map (nodesOf b) _
-
-pub nodes-count : {b : Bytes} {array : List ℕ} {n : ℕ} → NodesAre b array n → length (nodesOf b) ≡ n
-nodes-count {b} {array} {n} a = sym (length-map (nodes (readQuery b)) keyOf) ∙ ap length (sym (a .keys)) ∙ length-take n array ∙ omega (arith, a .room, a .few)
 
 pub listed-count : {b work : Bytes} {count : ℕ} {l : List Marks} → Listed b work count l → length l ≡ count
 listed-count {work} {count} {l} h = sym (length-map l packMarks) ∙ ap length (sym (h .rows)) ∙ rows-count count work

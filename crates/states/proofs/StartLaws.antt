@@ -23,7 +23,7 @@ use Rattle.theory.proofs.StateLaws.{marks-canonical}
 use Rattle.query.proofs.ReadLaws.{produced-at, produced-count}
 use Rattle.derivation.specs.Keys.{keyOf, Small}
 use Rattle.derivation.proofs.KeyLaws.{key-injective}
-use Rattle.nodes.proofs.NodeKeys.{kept-small, produced-small}
+use Rattle.nodes.proofs.NodeKeys.{kept-small, produced-small, nodes-count}
 use Rattle.closure.specs.Work.{packMarks, Ready, nodesOf}
 use Rattle.closure.specs.Marks.{withMark}
 use Rattle.states.specs.States.{Keyed}
@@ -31,7 +31,6 @@ use Rattle.closure.proofs.MarkLaws.{pack-length, pack-byte, pack-mark}
 use Rattle.theory.proofs.PositionLaws.{position-bound}
 use Rattle.states.proofs.PositionLaws.{position-map}
 use Rattle.states.proofs.StateRows.{upFrom-snoc}
-use Rattle.states.proofs.JoinedLaws.{nodes-count}
 
 -- the first j prefixes of an order, by their lengths
 abbrev pub shortest : ℕ → Order → List Order

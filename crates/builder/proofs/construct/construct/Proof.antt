@@ -1,5 +1,5 @@
 -- `builder::construct::construct` meets its contract: there are too many nodes, or the states follow.
-use Rattle.states.proofs.JoinedLaws.{nodes-count}
+use Rattle.nodes.proofs.NodeKeys.{nodes-count}
 use native.Mathlib.Omega.{arith}
 use lib.ListN.{length}
 use denote.Ref.{now}

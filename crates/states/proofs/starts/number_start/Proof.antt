@@ -9,7 +9,8 @@ use Rattle.theory.specs.Construction.{startState}
 use Rattle.theory.specs.Query.{readQuery}
 use Rattle.closure.specs.Work.{nodesOf}
 use Rattle.states.specs.States.{Placed}
-use Rattle.states.proofs.JoinedLaws.{start-length, nodes-count, joined}
+use Rattle.nodes.proofs.NodeKeys.{nodes-count}
+use Rattle.states.proofs.JoinedLaws.{start-length, joined}
 use Rattle.states.proofs.starts.number_start.Statement.{statement}
 use Rattle.states.proofs.starts.number_start.Tie as tie
 

@@ -5,9 +5,13 @@ use mathlib.Core.List.{[]}
 use denote.Ref.{now}
 use lib.ListN.{length, getD}
 use borrow.Author.Needs.{needs}
+use Rattle.theory.specs.Query.{readQuery}
+use Rattle.closure.specs.Work.{nodesOf}
 use Rattle.states.specs.States.{Placed, taken}
 use Rattle.states.proofs.StateRows.{row-length}
-use Rattle.states.proofs.JoinedLaws.{taken-length, nodes-count, listed-row, listed-even, joined}
+use Rattle.nodes.proofs.NodeKeys.{nodes-count}
+use Rattle.closure.proofs.TakenLaws.{taken-length}
+use Rattle.states.proofs.JoinedLaws.{listed-row, listed-even, joined}
 use Rattle.states.proofs.ContentLaws.{sets-are}
 use Rattle.states.proofs.walk.take_set.Statement.{statement}
 use Rattle.states.proofs.walk.take_set.Tie as tie
@@ -47,7 +51,7 @@ returns c =
     c .before .before .before .before .before .before .close .ensures .1 (getD l (a .i) []) (listed-even h (a .i) (omega arith) ∙ count)
     (c .before .before .before .before .before .before .before .before .before .read-state .ensures ∙ listed-row h (a .i) (omega arith)) in
     let b = now (a .query) in
-    joined (taken b (getD l (a .i) []) (a .set)) (omega (arith, s .pre .0 .listed .few)) (taken-length b (getD l (a .i) []) (a .set)) h
+    joined (taken b (getD l (a .i) []) (a .set)) (omega (arith, s .pre .0 .listed .few)) (taken-length (readQuery b) (nodesOf b) (getD l (a .i) []) (a .set)) h
     (subst (λ m. Placed (now (a .work)) (n .last .0) m (a .count) (n .result .number) (n .result .count)) e (n .ensures))
 
 pub take-set-spec : {M : Type 1} → statement M
