@@ -30,21 +30,18 @@ pub code-read : {a : Answer} {code : ℕ} → Plain a → code ≡ answerCode a 
 code-read (granted n b) e = rw (e, lt-ltb (answerCode (grant n)) 65536 (omega arith)) (ap grant (omega arith))
 code-read (refused n p b) e = rw (e, le-ltb (answerCode (refuse n)) 65536 (omega arith)) (ap refuse (omega arith))
 
-plain-pick : (b : Bool) {x y : Answer} → Plain x → Plain y → Plain (pick b x y)
-plain-pick true p q = p
-plain-pick false p q = q
+-- what holds of both holds of the one that is picked
+pick-either : {A : Type 0} (P : A → Type 0) (b : Bool) {x y : A} → P x → P y → P (pick b x y)
+pick-either P true p q = p
+pick-either P false p q = q
 
 plain-handle : Plain (refuse handle-refused)
 plain-handle = refused handle-refused (omega arith) (omega arith)
 
 -- the form is refused with 1 or 2
-few-pick : (b : Bool) {m n : ℕ} → m ≤ 2 → n ≤ 2 → pick b m n ≤ 2
-few-pick true l k = l
-few-pick false l k = k
-
 form-few : (t : Bytes) → formRefusal t ≤ 2
 unfolding formRefusal
-form-few t = search (few-pick, leb-true, refl) depth 12
+form-few t = search (pick-either (λ n. n ≤ 2), leb-true, refl) depth 12
 
 plain-formed : (t : Bytes) {a : Answer} → (Formed t → Plain a) → Plain (theory.formed t a)
 plain-formed t {a} p = go (says-eqb (formRefusal t) passed)
@@ -62,9 +59,9 @@ plain-state t state f = go (says-ltb state (statesIn t))
 
 pub plain-enter : (t : Bytes) (p : ℕ) → Plain (enter t p)
 unfolding enter
-plain-enter t p = plain-formed t (λ f. plain-pick (ltb p (producedIn t)) (plain-state t (startIn t p) f) plain-handle)
+plain-enter t p = plain-formed t (λ f. pick-either Plain (ltb p (producedIn t)) (plain-state t (startIn t p) f) plain-handle)
 
 pub plain-take : (t : Bytes) (state s : ℕ) → Plain (takeIn t state s)
 unfolding takeIn
 plain-take t state s =
-    plain-formed t (λ f. plain-pick (ltb state (statesIn t)) (plain-pick (ltb s (setsIn t)) (plain-state t (successorIn t state s) f) plain-handle) plain-handle)
+    plain-formed t (λ f. pick-either Plain (ltb state (statesIn t)) (pick-either Plain (ltb s (setsIn t)) (plain-state t (successorIn t state s) f) plain-handle) plain-handle)

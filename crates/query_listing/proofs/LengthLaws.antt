@@ -59,15 +59,15 @@ digits-short (suc k) n = record { short = rw length-append (go (ltb n 10) (digit
     go true h = omega arith
     go false h = omega arith
 
-abbrev power : ℕ → ℕ
-power zero = 1
-power (suc j) = 10 * power j
+abbrev powerOfTen : ℕ → ℕ
+powerOfTen zero = 1
+powerOfTen (suc j) = 10 * powerOfTen j
 
-digits-few : (k j n : ℕ) → n < power (suc j) → Short (digits k n) (suc j)
+digits-few : (k j n : ℕ) → n < powerOfTen (suc j) → Short (digits k n) (suc j)
 digits-few zero j n h = record { short = omega arith }
 digits-few (suc k) j n h = record { short = rw length-append (go j h (λ i. digits-few k i (n / 10)) (says-ltb n 10)) }
   where
-    go : (j : ℕ) → n < power (suc j) → ((i : ℕ) → n / 10 < power (suc i) → Short (digits k (n / 10)) (suc i)) →
+    go : (j : ℕ) → n < powerOfTen (suc j) → ((i : ℕ) → n / 10 < powerOfTen (suc i) → Short (digits k (n / 10)) (suc i)) →
         {t : Bool} → Says (n < 10) t → length (pick t [] (digits k (n / 10))) + 1 ≤ suc j
     go j h rest (holds l) = omega arith
     go zero h rest (fails f) = absurd (f (omega arith))
@@ -84,8 +84,8 @@ refusal-short n = joined (word refusedWord) (joined (digits-short 5 n) (word lin
 
 -- the lines of a table that was built
 module _ {query t : Bytes} {n : ℕ} (b : Built query t n) where
-  f : Formed t
-  f = built-formed b
+  form : Formed t
+  form = built-formed b
 
   faithful : Faithful (readQuery query) t
   faithful = built-faithful b
@@ -94,29 +94,29 @@ module _ {query t : Bytes} {n : ℕ} (b : Built query t n) where
   unfolding countsLine
   counts-short =
       joined (word statesWord)
-      (joined (number (statesIn t) (omega (arith, f .few-states)))
+      (joined (number (statesIn t) (omega (arith, form .few-states)))
       (joined (word nodesWord) (joined (number n (omega (arith, b .count-is, b .few-nodes))) (word lineEnd))))
 
   start-short : (p : ℕ) → p < producedIn t → Short (startLine t p) 14
   unfolding startLine
   start-short p h =
       joined (word startWord)
-      (joined (number p (omega (arith, f .few-produced)))
-      (joined (spaced-number (startIn t p) (omega (arith, f .few-states, faithful .start-below p h))) (word lineEnd)))
+      (joined (number p (omega (arith, form .few-produced)))
+      (joined (spaced-number (startIn t p) (omega (arith, form .few-states, faithful .start-below p h))) (word lineEnd)))
 
   -- a number in a state's row is a state
   row-below : (state x : ℕ) → state < statesIn t → List·Memᴰ x (rowIn t state) → x < 1000
   row-below state x h m =
       let at = getD-member 0 m in
       let few : at .0 < setsIn t = let k : length (rowIn t state) ≤ setsIn t = rw length-take (omega arith) in omega (arith, at .1) in
-      subst (λ y. y < 1000) (at .2) (omega (arith, f .few-states, faithful .successor-below state (at .0) h few))
+      subst (λ y. y < 1000) (at .2) (omega (arith, form .few-states, faithful .successor-below state (at .0) h few))
 
   state-short : (state : ℕ) → state < statesIn t → Short (stateLine t state) 58
   unfolding stateLine
   state-short state h =
-      let row : length (rowIn t state) ≤ 8 = rw length-take (omega (arith, f .few-sets)) in
+      let row : length (rowIn t state) ≤ 8 = rw length-take (omega (arith, form .few-sets)) in
       joined (word stateWord)
-      (joined (number state (omega (arith, f .few-states)))
+      (joined (number state (omega (arith, form .few-states)))
       (joined (word nextWord)
       (joined (some-pieces 8 (rowIn t state) (λ x m. spaced-number x (row-below state x h m)) row)
       (joined (word heldWord) (joined (digits-short 5 (heldNumber t state)) (word lineEnd))))))
@@ -125,8 +125,8 @@ module _ {query t : Bytes} {n : ℕ} (b : Built query t n) where
   unfolding tableListing
   table-short =
       joined counts-short
-      (joined (some-pieces 8 (upFrom 0 (producedIn t)) (λ p m. start-short p (omega (arith, member-upFrom 0 (producedIn t) m .1))) (rw upFrom-length (f .few-produced)))
-      (some-pieces 128 (upFrom 0 (statesIn t)) (λ state m. state-short state (omega (arith, member-upFrom 0 (statesIn t) m .1))) (rw upFrom-length (f .few-states))))
+      (joined (some-pieces 8 (upFrom 0 (producedIn t)) (λ p m. start-short p (omega (arith, member-upFrom 0 (producedIn t) m .1))) (rw upFrom-length (form .few-produced)))
+      (some-pieces 128 (upFrom 0 (statesIn t)) (λ state m. state-short state (omega (arith, member-upFrom 0 (statesIn t) m .1))) (rw upFrom-length (form .few-states))))
 
 -- Every query's listing.
 pub listing-short : (query : Bytes) → length (listing query) ≤ longestListing
