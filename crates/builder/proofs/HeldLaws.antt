@@ -18,7 +18,7 @@ use Rattle.theory.proofs.Reflect.{says-one, says-as, says-ltb, decides-number, 
 use Rattle.theory.proofs.ClosureLaws.{closure-all}
 use Rattle.theory.proofs.NodeLaws.{nodes-distinct}
 use Rattle.theory.proofs.RowLaws.{getD-map, entries, number-fits}
-use Rattle.query.proofs.Searches.{entry-at, entry-count}
+use Rattle.theory.proofs.RangeLaws.{entry-at, entry-count}
 use Rattle.query.proofs.PassedLaws.{query-passed}
 use Rattle.query.proofs.ReadLaws.{interesting-at, interesting-count}
 use Rattle.derivation.specs.Keys.{keyOf, Small}

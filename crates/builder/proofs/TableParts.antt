@@ -2,16 +2,15 @@
 use Prim.Native.Nat.{ℕ, _+_, _*_}
 use native.Mathlib.Omega.{arith}
 use mathlib.Core.Path.{_≡_, refl, sym, _∙_, ap}
-use mathlib.Core.List.{List, [], _∷_, _++_, map, map-map}
+use mathlib.Core.List.{List, [], _∷_, _++_, map, map-map, flatten}
 use lib.ListN.{length, take, drop, length-map}
-use Rattle.theory.specs.Tests.{concat}
 use Rattle.theory.specs.Construction.{Marks}
 use Rattle.theory.specs.Query.{Bytes, producedCount, testedCount, setCount, orderAt, readQuery}
 use Rattle.theory.specs.Table.{tableOf, heldBytes, writeTable}
 use Rattle.theory.specs.Build.{tableBytes}
 use Rattle.theory.proofs.RowLaws.{getD-map, entries}
 use Rattle.theory.proofs.Faithfulness.{Fits, faithful}
-use Rattle.query.proofs.Searches.{entry-count}
+use Rattle.theory.proofs.RangeLaws.{entry-count}
 use Rattle.query.proofs.PassedLaws.{query-passed}
 use Rattle.query.proofs.ReadLaws.{produced-count}
 use Rattle.table.proofs.FormLaws.{formed}
@@ -30,11 +29,11 @@ module _ (b : Bytes) where
   sets-read = refl
 
   -- the held bytes, state by state
-  held-part : (q : ℕ) → length (statesOf b) ≡ q → concat (map heldBytes (contentsOf b .held)) ≡ heldPart b q
+  held-part : (q : ℕ) → length (statesOf b) ≡ q → flatten (map heldBytes (contentsOf b .held)) ≡ heldPart b q
   unfolding tableOf
   held-part q e =
       let bytes : Marks → Bytes = λ ms. heldBytes (heldBits b ms) in
-      ap concat
+      ap flatten
       (map-map heldBytes (heldBits b) (statesOf b)
       ∙ sym
       (entries (stateHeld b) (map bytes (statesOf b)) [] q (length-map (statesOf b) bytes ∙ e)

@@ -4,9 +4,9 @@ use native.Mathlib.Nat.{zero-add, mul-le-mul}
 use native.Mathlib.Omega.{arith}
 use mathlib.Core.Path.{_≡_, sym, _∙_, ap, ap₂}
 use mathlib.Core.Bool.{Bool}
-use mathlib.Core.List.{List, [], _∷_, _++_, map, append-assoc, List·Memᴰ, Memᴰ·of-map}
+use mathlib.Core.List.{List, [], _∷_, _++_, map, append-assoc, List·Memᴰ, Memᴰ·of-map, flatten}
 use lib.ListN.{length, take, drop, getD, length-map, length-take}
-use Rattle.theory.specs.Tests.{concat, upFrom}
+use Rattle.theory.specs.Tests.{upFrom}
 use Rattle.theory.specs.Orders.{Query}
 use Rattle.theory.specs.Construction.{Marks, nodes, startState, takeSet, setNumbers, statesWithin, states, maxStates}
 use Rattle.theory.specs.Query.{Bytes, rowAt, readQuery}
@@ -14,9 +14,8 @@ use Rattle.theory.specs.Table.{Table, number, heldBytes, writeTable}
 use Rattle.theory.proofs.Reflect.{decides-marks}
 use Rattle.theory.proofs.ClosureLaws.{closure-all}
 use Rattle.theory.proofs.ListLaws.{member-getD}
-use Rattle.theory.proofs.RowLaws.{getD-map, concat-length, number-fits, number-split}
-use Rattle.query.proofs.Searches.{entry-at, entry-count}
-use Rattle.derivation.proofs.TurnLaws.{concat-more}
+use Rattle.theory.proofs.RowLaws.{getD-map, flatten-length, number-fits, number-split}
+use Rattle.theory.proofs.RangeLaws.{entry-at, entry-count, flatten-more}
 use Rattle.closure.specs.Work.{packMarks, statesOf, stateRows}
 use Rattle.builder.specs.Output.{heldPart, stateHeld}
 
@@ -33,11 +32,11 @@ word-bytes bs =
 
 -- the held bytes of one state more, and how many they are
 pub part-more : (b : Bytes) (i : ℕ) → heldPart b i ++ stateHeld b i ≡ heldPart b (i + 1)
-part-more b i = sym (concat-more (stateHeld b) 0 i i (sym (zero-add i)))
+part-more b i = sym (flatten-more (stateHeld b) 0 i i (sym (zero-add i)))
 
 pub part-length : (b : Bytes) (n : ℕ) → length (heldPart b n) ≡ n * 2
 part-length b n =
-    concat-length 2 (map (stateHeld b) (upFrom 0 n)) (λ r m. ap length (sym (Memᴰ·of-map (stateHeld b) (upFrom 0 n) m .2))) ∙ ap (λ k. k * 2) (entry-count (stateHeld b) 0 n)
+    flatten-length 2 (map (stateHeld b) (upFrom 0 n)) (λ r m. ap length (sym (Memᴰ·of-map (stateHeld b) (upFrom 0 n) m .2))) ∙ ap (λ k. k * 2) (entry-count (stateHeld b) 0 n)
 
 -- a state has a mark for each node
 state-length : (q : Query) (ms : Marks) → List·Memᴰ ms (states q (nodes q)) → length ms ≡ length (nodes q)
@@ -65,7 +64,7 @@ module _ (b work : Bytes) (q : ℕ) (rows : stateRows q work ≡ map packMarks (
 
 -- a table's bytes from its parts
 pub table-parts : (t : Table) (q p e s : ℕ) (starts next held : Bytes) → t .stateCount ≡ q → t .producedCount ≡ p → t .testedCount ≡ e → t .setCount ≡ s
-    → t .starts ≡ starts → concat (t .successors) ≡ next → concat (map heldBytes (t .held)) ≡ held
+    → t .starts ≡ starts → flatten (t .successors) ≡ next → flatten (map heldBytes (t .held)) ≡ held
     → writeTable t ≡ ((q ∷ p ∷ e ∷ s ∷ starts) ++ next) ++ held
 unfolding writeTable
 table-parts t q p e s starts next held e₁ e₂ e₃ e₄ e₅ e₆ e₇ = cc (append-assoc starts next held)

@@ -1,10 +1,10 @@
 -- What goes into the output: the held bits of a set of nodes, as the code finds them and as the table has them, and bytes written at a place.
 use Prim.Native.Nat.{ℕ, _+_}
 use mathlib.Core.Bool.{Bool, false}
-use mathlib.Core.List.{List, [], _++_, map}
+use mathlib.Core.List.{List, [], _++_, map, flatten}
 use lib.Dec.{eqb, ltb}
 use lib.ListN.{length, take, drop, getD}
-use Rattle.theory.specs.Tests.{pick, position, concat, upFrom}
+use Rattle.theory.specs.Tests.{pick, position, upFrom}
 use Rattle.theory.specs.Orders.{interesting}
 use Rattle.theory.specs.Construction.{Marks, holdsIn}
 use Rattle.theory.specs.Query.{Bytes, orderCount, orderAt, readQuery}
@@ -39,7 +39,7 @@ abbrev pub stateHeld : Bytes → ℕ → Bytes
 stateHeld b k = heldBytes (heldBits b (getD (statesOf b) k []))
 
 abbrev pub heldPart : Bytes → ℕ → Bytes
-heldPart b n = concat (map (stateHeld b) (upFrom 0 n))
+heldPart b n = flatten (map (stateHeld b) (upFrom 0 n))
 
 -- The buffer d with the bytes x written at a place; the rest keep theirs.
 unfoldable pub placed : ℕ → Bytes → Bytes → Bytes

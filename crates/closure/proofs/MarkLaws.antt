@@ -15,7 +15,7 @@ use Rattle.theory.specs.Query.{byteAt}
 use Rattle.theory.specs.Table.{bit, number}
 use Rattle.theory.proofs.Reflect.{says-ltb, says-eqb}
 use Rattle.theory.proofs.RowLaws.{number-bit}
-use Rattle.query.proofs.Searches.{entry-at, entry-count}
+use Rattle.theory.proofs.RangeLaws.{entry-at, entry-count}
 use Rattle.closure.specs.Work.{packMarks}
 use Rattle.closure.specs.Marks.{inMarks, withMark}
 

@@ -3,24 +3,24 @@ use Prim.Native.Nat.{ℕ, zero, suc, _+_, _<_}
 use native.Mathlib.Nat.{add-zero, add-suc}
 use mathlib.Core.Path.{_≡_, refl, sym, _∙_, ap}
 use mathlib.Core.Bool.{Bool, true, false}
-use mathlib.Core.List.{List, [], _∷_, _++_, map, map-append, append-nil, append-assoc}
+use mathlib.Core.List.{List, [], _∷_, _++_, map, map-append, append-nil, append-assoc, flatten}
 use lib.Dec.{eqb}
 use lib.ListN.{length, take, getD}
-use Rattle.theory.specs.Tests.{pick, concat, upFrom}
+use Rattle.theory.specs.Tests.{pick, upFrom}
 use Rattle.theory.specs.Orders.{Order, Rule, rulesIn, rulesOf}
 use Rattle.theory.specs.Construction.{results}
 use Rattle.theory.specs.Query.{Bytes, dependencyCount, orderCount, dependencyAt, readQuery}
 use Rattle.derivation.specs.Keys.{keptKeys}
-use Rattle.derivation.proofs.TurnLaws.{take-more}
+use Rattle.theory.proofs.RangeLaws.{take-more}
 use Rattle.closure.specs.Close.{ownAt, ownOf, rulesAt}
 
 -- the rules of the set's dependencies are the set's
-rules-in : (b : Bytes) (s k n : ℕ) → rulesAt b (concat (map (ownAt b s) (upFrom k n))) ≡ rulesIn s (map (dependencyAt b) (upFrom (orderCount b + k) n))
+rules-in : (b : Bytes) (s k n : ℕ) → rulesAt b (flatten (map (ownAt b s) (upFrom k n))) ≡ rulesIn s (map (dependencyAt b) (upFrom (orderCount b + k) n))
 rules-in b s k zero = refl
 rules-in b s k (suc n) = go (eqb (dependencyAt b (orderCount b + k) .set) s) (rules-in b s (suc k) n ∙ ap (λ j. rulesIn s (map (dependencyAt b) (upFrom j n))) (add-suc (orderCount b) k))
   where
-    go : (t : Bool) {l : List Rule} → rulesAt b (concat (map (ownAt b s) (upFrom (suc k) n))) ≡ l →
-        rulesAt b (pick t (k ∷ []) [] ++ concat (map (ownAt b s) (upFrom (suc k) n))) ≡ pick t (dependencyAt b (orderCount b + k) .rule ∷ l) l
+    go : (t : Bool) {l : List Rule} → rulesAt b (flatten (map (ownAt b s) (upFrom (suc k) n))) ≡ l →
+        rulesAt b (pick t (k ∷ []) [] ++ flatten (map (ownAt b s) (upFrom (suc k) n))) ≡ pick t (dependencyAt b (orderCount b + k) .rule ∷ l) l
     go true e = ap (λ r. dependencyAt b (orderCount b + k) .rule ∷ r) e
     go false e = e
 
@@ -30,16 +30,16 @@ own-rules b s e = ap (rulesAt b) e ∙ rules-in b s 0 (dependencyCount b) ∙ ap
 
 -- the results of one dependency more
 rules-more : (b : Bytes) (o : Order) (own : List ℕ) (i : ℕ) →
-    concat (map (λ r. results r o) (rulesAt b (own ++ (i ∷ [])))) ≡ concat (map (λ r. results r o) (rulesAt b own)) ++ results (dependencyAt b (orderCount b + i) .rule) o
+    flatten (map (λ r. results r o) (rulesAt b (own ++ (i ∷ [])))) ≡ flatten (map (λ r. results r o) (rulesAt b own)) ++ results (dependencyAt b (orderCount b + i) .rule) o
 rules-more b o [] i = append-nil (results (dependencyAt b (orderCount b + i) .rule) o)
 rules-more b o (k ∷ own) i =
     let here = results (dependencyAt b (orderCount b + k) .rule) o in
-    ap (λ l. here ++ l) (rules-more b o own i) ∙ sym (append-assoc here (concat (map (λ r. results r o) (rulesAt b own))) (results (dependencyAt b (orderCount b + i) .rule) o))
+    ap (λ l. here ++ l) (rules-more b o own i) ∙ sym (append-assoc here (flatten (map (λ r. results r o) (rulesAt b own))) (results (dependencyAt b (orderCount b + i) .rule) o))
 
 pub results-more : (w n : ℕ) (b : Bytes) (o : Order) (own : List ℕ) (j : ℕ) → j < length own →
-    keptKeys w n (concat (map (λ r. results r o) (rulesAt b (take (j + 1) own))))
-    ≡ keptKeys w n (concat (map (λ r. results r o) (rulesAt b (take j own)))) ++ keptKeys w n (results (dependencyAt b (orderCount b + getD own j 0) .rule) o)
+    keptKeys w n (flatten (map (λ r. results r o) (rulesAt b (take (j + 1) own))))
+    ≡ keptKeys w n (flatten (map (λ r. results r o) (rulesAt b (take j own)))) ++ keptKeys w n (results (dependencyAt b (orderCount b + getD own j 0) .rule) o)
 results-more w n b o own j h =
-    ap (λ l. keptKeys w n (concat (map (λ r. results r o) (rulesAt b l)))) (take-more own j 0 h)
+    ap (λ l. keptKeys w n (flatten (map (λ r. results r o) (rulesAt b l)))) (take-more own j 0 h)
     ∙ ap (keptKeys w n) (rules-more b o (take j own) (getD own j 0))
-    ∙ map-append _ (concat (map (λ r. results r o) (rulesAt b (take j own)))) (results (dependencyAt b (orderCount b + getD own j 0) .rule) o)
+    ∙ map-append _ (flatten (map (λ r. results r o) (rulesAt b (take j own)))) (results (dependencyAt b (orderCount b + getD own j 0) .rule) o)

@@ -2,10 +2,10 @@
 use Prim.Native.Nat.{ℕ, zero, suc, _+_, _<_, _≤_}
 use mathlib.Core.Path.{_≡_}
 use mathlib.Core.Bool.{true, false}
-use mathlib.Core.List.{List, [], _∷_, map, List·Memᴰ}
+use mathlib.Core.List.{List, [], _∷_, map, List·Memᴰ, flatten}
 use lib.Dec.{eqb}
 use lib.ListN.{length, getD}
-use Rattle.theory.specs.Tests.{pick, concat, upFrom}
+use Rattle.theory.specs.Tests.{pick, upFrom}
 use Rattle.theory.specs.Orders.{Rule}
 use Rattle.theory.specs.Query.{Bytes, orderCount, dependencyCount, dependencyAt}
 use Rattle.closure.specs.Marks.{inMarks, withMark}
@@ -21,7 +21,7 @@ abbrev pub ownAt : Bytes → ℕ → ℕ → List ℕ
 ownAt b s i = pick (eqb (dependencyAt b (orderCount b + i) .set) s) (i ∷ []) []
 
 abbrev pub ownOf : Bytes → ℕ → List ℕ
-ownOf b s = concat (map (ownAt b s) (upFrom 0 (dependencyCount b)))
+ownOf b s = flatten (map (ownAt b s) (upFrom 0 (dependencyCount b)))
 
 abbrev pub rulesAt : Bytes → List ℕ → List Rule
 rulesAt b own = map (λ i. dependencyAt b (orderCount b + i) .rule) own

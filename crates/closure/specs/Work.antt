@@ -1,9 +1,9 @@
 -- What lies in the work memory while a table is built: sets of nodes as bits, the numbered states, and their successors.
 use Prim.Native.Nat.{ℕ, _*_, _≤_, _<_}
 use mathlib.Core.Path.{_≡_}
-use mathlib.Core.List.{List, map}
+use mathlib.Core.List.{List, map, flatten}
 use lib.ListN.{length, take, drop}
-use Rattle.theory.specs.Tests.{concat, upFrom}
+use Rattle.theory.specs.Tests.{upFrom}
 use Rattle.theory.specs.Orders.{Order}
 use Rattle.theory.specs.Construction.{Marks, nodes, states, maxStates}
 use Rattle.theory.specs.Query.{Bytes, rowAt, readQuery}
@@ -41,7 +41,7 @@ pub record StatesAre (b work starts : Bytes) (q : ℕ) : Type 0 where
   pub few : q ≤ 128
   pub rows : stateRows q work ≡ map packMarks (statesOf b)
   pub first : take (length (readQuery b .produced)) starts ≡ contentsOf b .starts
-  pub next : take (q * readQuery b .sets) (drop successorsPart work) ≡ concat (contentsOf b .successors)
+  pub next : take (q * readQuery b .sets) (drop successorsPart work) ≡ flatten (contentsOf b .successors)
 
 -- The states were numbered, or q is past 128 and there are more.
 pub record StatesFound (b work starts : Bytes) (q : ℕ) : Type 0 where

@@ -6,10 +6,9 @@ use derivation::results;
 use orders::Order;
 use orders::Rule;
 ghost use mathlib.Core.Path.{_≡_};
-ghost use mathlib.Core.List.{[], _∷_, map};
+ghost use mathlib.Core.List.{[], _∷_, map, flatten};
 ghost use Prim.Native.Nat.{_+_, _≤_, _<_};
 ghost use lib.ListN.{length, take, getD};
-ghost use Rattle.theory.specs.Tests.{concat};
 ghost use Rattle.theory.specs.Construction.{Marks, takeSet, shorter, results};
 ghost use Rattle.theory.specs.Query.{readQuery, orderCount, dependencyAt};
 ghost use Rattle.orders.specs.Orders.{orderOf, ruleIs};
@@ -120,7 +119,7 @@ fn mark_steps(
     longest: usize,
 ) -> usize
     requires { ⌜ Room (now nodes) n (now marks) × (m ≤ length (now own)) × (longest ≤ 4) ⌝ }
-    ensures { λ r. ⌜ Marking (take n (now (nodes .entry))) (keptKeys wanted longest (concat (map (λ rule. results rule (orderOf o)) (rulesAt (now (query .entry)) (take m (now (own .entry))))))) (now (marks .entry)) (now (marks .exit)) r ⌝ }
+    ensures { λ r. ⌜ Marking (take n (now (nodes .entry))) (keptKeys wanted longest (flatten (map (λ rule. results rule (orderOf o)) (rulesAt (now (query .entry)) (take m (now (own .entry))))))) (now (marks .entry)) (now (marks .exit)) r ⌝ }
 {
     let mut count = 0;
     let mut j = 0;

@@ -1,12 +1,13 @@
 -- A text that is written from a place on, piece by piece.
 use Prim.Native.Nat.{ℕ, _+_, _≤_}
 use mathlib.Core.Path.{_≡_}
-use mathlib.Core.List.{_++_, map}
+use mathlib.Core.List.{_++_, map, flatten}
 use lib.ListN.{length, take}
 use lib.Seq.{paste}
-use Rattle.theory.specs.Tests.{concat, upFrom}
+use Rattle.theory.specs.Table.{heldNumber}
+use Rattle.theory.specs.Tests.{upFrom}
 use Rattle.theory.specs.Query.{Bytes}
-use Rattle.theory.specs.Listing.{decimal, heldWord, lineEnd, heldNumber}
+use Rattle.theory.specs.Listing.{decimal, heldLabel, lineEnd}
 
 -- A piece of at most so many bytes stands at the place, the other bytes are kept, and `behind` is the place behind it.
 pub record Wrote (before : Bytes) (at : ℕ) (piece : Bytes) (most : ℕ) (after : Bytes) (behind : ℕ) : Type 0 where
@@ -24,8 +25,8 @@ pub record Printed (before : Bytes) (listing : Bytes) (after : Bytes) (count : �
 
 -- The first n lines of a kind.
 abbrev pub lines : (ℕ → Bytes) → ℕ → Bytes
-lines line n = concat (map line (upFrom 0 n))
+lines line n = flatten (map line (upFrom 0 n))
 
 -- The end of a state's line.
 abbrev pub heldPart : Bytes → ℕ → Bytes
-heldPart t state = heldWord ++ (decimal (heldNumber t state) ++ lineEnd)
+heldPart t state = heldLabel ++ (decimal (heldNumber t state) ++ lineEnd)

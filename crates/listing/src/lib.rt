@@ -2,7 +2,7 @@
 ghost use mathlib.Core.List.{_++_};
 ghost use Prim.Native.Nat.{_≤_};
 ghost use lib.ListN.{length};
-ghost use Rattle.theory.specs.Listing.{decimal, refusedWord, lineEnd, tableListing};
+ghost use Rattle.theory.specs.Listing.{decimal, refusedLabel, lineEnd, tableListing};
 ghost use Rattle.table.specs.Form.{Formed};
 ghost use Rattle.listing.specs.Text.{Printed};
 use lines::counts_line;
@@ -27,7 +27,7 @@ pub fn list(table: &[u8], nodes: usize, text: &mut [u8]) -> usize
 // The line of a refusal.
 pub fn refused(n: u8, text: &mut [u8]) -> usize
     requires { ⌜ 12 ≤ length (now text) ⌝ }
-    ensures { λ r. ⌜ Printed (now (text .entry)) (refusedWord ++ (decimal n ++ lineEnd)) (now (text .exit)) r ⌝ }
+    ensures { λ r. ⌜ Printed (now (text .entry)) (refusedLabel ++ (decimal n ++ lineEnd)) (now (text .exit)) r ⌝ }
 {
     let at = word(text, 0, b"refused ");
     let end = number(text, at, n as usize);

@@ -1,8 +1,7 @@
 // The lines of a listing, each written at a place of a text. Each hands back the place behind.
-ghost use mathlib.Core.List.{map};
+ghost use mathlib.Core.List.{map, flatten};
 ghost use Prim.Native.Nat.{_+_, _<_, _≤_};
 ghost use lib.ListN.{length};
-ghost use Rattle.theory.specs.Tests.{concat};
 ghost use Rattle.theory.specs.Table.{statesIn, producedIn};
 ghost use Rattle.theory.specs.Listing.{spaced, countsLine, startLine, stateLine};
 ghost use Rattle.table.specs.Form.{Formed};
@@ -57,7 +56,7 @@ pub fn start_lines(table: &[u8], text: &mut [u8], at: usize) -> usize
 // The successors in a row.
 fn row_numbers(row: &[u8], text: &mut [u8], at: usize) -> usize
     requires { ⌜ (length (now row) ≤ 8) × (at + 32 ≤ length (now text)) ⌝ }
-    ensures { λ r. ⌜ Wrote (now (text .entry)) at (concat (map spaced (now (row .entry)))) 32 (now (text .exit)) r ⌝ }
+    ensures { λ r. ⌜ Wrote (now (text .entry)) at (flatten (map spaced (now (row .entry)))) 32 (now (text .exit)) r ⌝ }
 {
     let mut end = at;
     let mut i = 0;

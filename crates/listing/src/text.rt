@@ -2,7 +2,7 @@
 ghost use mathlib.Core.List.{[], _∷_};
 ghost use Prim.Native.Nat.{_+_, _%_, _<_, _≤_};
 ghost use lib.ListN.{length};
-ghost use Rattle.theory.specs.Listing.{decimal, digits, spaced};
+ghost use Rattle.theory.specs.Listing.{decimal, decimalWithin, spaced};
 ghost use Rattle.listing.specs.Text.{Wrote};
 use table::write_row;
 
@@ -27,7 +27,7 @@ fn digit(text: &mut [u8], at: usize, n: usize) -> usize
 // A number in decimal, its last k digits at most.
 pub fn number_of(text: &mut [u8], at: usize, k: usize, n: usize) -> usize
     requires { ⌜ at + k ≤ length (now text) ⌝ }
-    ensures { λ r. ⌜ Wrote (now (text .entry)) at (digits k n) k (now (text .exit)) r ⌝ }
+    ensures { λ r. ⌜ Wrote (now (text .entry)) at (decimalWithin k n) k (now (text .exit)) r ⌝ }
 {
     if k == 0 {
         return at;
@@ -53,5 +53,5 @@ pub fn spaced_number(text: &mut [u8], at: usize, n: u8) -> usize
     ensures { λ r. ⌜ Wrote (now (text .entry)) at (spaced n) 4 (now (text .exit)) r ⌝ }
 {
     let digits = word(text, at, b" ");
-    number(text, digits, n as usize)
+    number(text, decimalWithin, n as usize)
 }

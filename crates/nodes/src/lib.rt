@@ -4,11 +4,11 @@ use derivation::results;
 use orders::Order;
 use orders::Rule;
 ghost use mathlib.Core.Path.{_≡_};
-ghost use mathlib.Core.List.{[], _∷_, map};
+ghost use mathlib.Core.List.{[], _∷_, map, flatten};
 ghost use Prim.Native.Nat.{_≤_, _<_};
 ghost use lib.Dec.{eqb};
 ghost use lib.ListN.{length, take, getD};
-ghost use Rattle.theory.specs.Tests.{position, concat};
+ghost use Rattle.theory.specs.Tests.{position};
 ghost use Rattle.theory.specs.Orders.{allRules};
 ghost use Rattle.theory.specs.Construction.{results, shorter};
 ghost use Rattle.theory.specs.Query.{readQuery};
@@ -105,7 +105,7 @@ fn add_steps(
     longest: usize,
 ) -> usize
     requires { ⌜ (length (now nodes) ≡ 256) × (n ≤ 256) × (longest ≤ 4) ⌝ }
-    ensures { λ r. ⌜ Added (take n (now (nodes .entry))) (keptKeys wanted longest (concat (map (λ rule. results rule (orderOf o)) (allRules (readQuery (now (query .entry))))))) (now (nodes .exit)) r ⌝ }
+    ensures { λ r. ⌜ Added (take n (now (nodes .entry))) (keptKeys wanted longest (flatten (map (λ rule. results rule (orderOf o)) (allRules (readQuery (now (query .entry))))))) (now (nodes .exit)) r ⌝ }
 {
     let rules = query::dependencies(query);
     let mut count = n;

@@ -13,8 +13,8 @@ use borrow.Author.Tests.{lt-ltb, le-ltb, ltb-false, leb-false}
 use Rattle.theory.specs.Tests.{pick, Says, holds, fails, Distinct, empty, also, every, repeats, upFrom}
 use Rattle.theory.specs.Orders.{sameOrder, fix, equal}
 use Rattle.theory.specs.Construction.{columnsOf}
-use Rattle.theory.specs.Refusals.{passed, firstOf}
-use Rattle.theory.specs.Query.{Bytes, byteAt, columnCount, setCount, orderCount, itemCount, headAt, bodyAt, orderAt, kindOf, setOf, ruleOf, usedBy, sizesRefusal, bodyRefusal, orderRefusal, dependencyRefusal, itemRefusal, twinRefusal, queryRefusal}
+use Rattle.theory.specs.Refusals.{passed, firstRefusal, firstOf}
+use Rattle.theory.specs.Query.{Bytes, byteAt, columnCount, setCount, orderCount, itemCount, headAt, bodyAt, orderAt, kindOf, setOf, ruleOf, usedBy, sizesRefusal, unusedRefusal, columnRefusal, repeatRefusal, bodyRefusal, orderRefusal, dependencyRefusal, itemRefusal, twinRefusal, queryRefusal}
 use Rattle.theory.proofs.Reflect.{says-eqb, says-ltb, says-every, says-true, decides-number, decides-order}
 use Rattle.theory.proofs.RowLaws.{all-cons}
 use Rattle.query.specs.Passed.{Columns, OrderFormed, DependencyFormed, Passed}
@@ -25,12 +25,11 @@ use Rattle.query.proofs.Searches.{distinct-if}
 body-passed : (n used : ℕ) (body : Bytes) → bodyRefusal n used body ≡ passed → Columns n (take used body)
 unfolding bodyRefusal
 body-passed n used body e =
-    let s1 = refused-else (every (λ c. eqb c 255) (drop used body)) e (omega arith) in
-    let s2 = refused-else (every (λ c. ltb c n) (take used body)) (s1 .1) (omega arith) in
-    let s3 = refused-then (repeats eqb (take used body)) (s2 .1) (omega arith) in
+    let rest = or-passed (unusedRefusal used body) (firstRefusal (columnRefusal n used body) (repeatRefusal used body)) e .1 in
+    let s = or-passed (columnRefusal n used body) (repeatRefusal used body) rest in
     record {
-      below = says-true (says-every (λ c. says-ltb c n) (take used body)) (s2 .0);
-      distinct = distinct-if decides-number 0 (take used body) (s3 .0);
+      below = says-true (says-every (λ c. says-ltb c n) (take used body)) (refused-else (every (λ c. ltb c n) (take used body)) (s .0) (omega arith) .0);
+      distinct = distinct-if decides-number 0 (take used body) (refused-then (repeats eqb (take used body)) (s .1) (omega arith) .0);
     }
 
 -- the last of some columns put first

@@ -11,7 +11,7 @@ use Rattle.theory.specs.Construction.{columnsOf}
 use Rattle.theory.specs.Query.{Bytes, columnCount, producedCount, testedCount, setCount, dependencyCount, orderCount, orderAt, dependencyAt, readQuery}
 use Rattle.theory.proofs.ListLaws.{member-upFrom}
 use Rattle.query.specs.Passed.{Columns, Passed}
-use Rattle.query.proofs.Searches.{entry-at, entry-count}
+use Rattle.theory.proofs.RangeLaws.{entry-at, entry-count}
 
 upFrom-append : (k m n : ℕ) → upFrom k m ++ upFrom (k + m) n ≡ upFrom k (m + n)
 upFrom-append k zero n = rw (add-zero, zero-add)

@@ -13,6 +13,7 @@ use Rattle.theory.specs.Tests.{Decides, Distinct, empty, also, every, member, r
 use Rattle.theory.proofs.Reflect.{says-member, says-repeats, says-false, true-says, false-says, says-true}
 use Rattle.theory.proofs.ListLaws.{member-getD, getD-member, member-upFrom, upFrom-member, upFrom-length, upFrom-getD}
 use Rattle.theory.proofs.RowLaws.{getD-map}
+use Rattle.theory.proofs.RangeLaws.{entry-at, entry-count}
 
 -- each element from i on passes: one step, and the two ends
 module _ (test : ℕ → Bool) (l : List ℕ) (i : ℕ) where
@@ -38,13 +39,6 @@ module _ {A : Type 0} (d : A) where
   earlier-distinct (x ∷ xs) h =
       also {xs = xs} (λ m. let t = getD-member d m in h (suc (t .0)) (omega arith) (List·Memᴰ·head (t .2)))
       (earlier-distinct xs (λ i l m. h (suc i) (omega arith) (List·Memᴰ·tail m)))
-
--- what f gives at the numbers from k on
-pub entry-at : {A : Type 0} (f : ℕ → A) (k n i : ℕ) (d : A) → i < n → getD (map f (upFrom k n)) i d ≡ f (k + i)
-entry-at f k n i d h = getD-map f (upFrom k n) i d 0 (rw upFrom-length h) ∙ ap f (upFrom-getD k n i 0 h)
-
-pub entry-count : {A : Type 0} (f : ℕ → A) (k n : ℕ) → length (map f (upFrom k n)) ≡ n
-entry-count f k n = length-map (upFrom k n) f ∙ upFrom-length k n
 
 take-upFrom : {A : Type 0} (f : ℕ → A) (k n i : ℕ) → i ≤ n → take i (map f (upFrom k n)) ≡ map f (upFrom k i)
 take-upFrom f k n zero h = refl

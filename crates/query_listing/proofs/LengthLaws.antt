@@ -1,21 +1,21 @@
 -- No table is longer than 1,292 bytes, so that a listing's build never runs out of room. No listing is longer than 7,557 bytes: the numbers in it have at
--- most three digits, and the held bits at most five.
+-- most three decimalWithin, and the held bits at most five.
 use Prim.Native.Nat.{ℕ, zero, suc, _+_, _*_, _/_, _≤_, _<_}
 use native.Mathlib.Nat.{suc-mul, mul-le-mul-right, le-trans}
 use native.Mathlib.Omega.{arith}
 use mathlib.Core.Path.{_≡_, refl, subst}
 use mathlib.Core.Bool.{Bool, true, false}
-use mathlib.Core.List.{List, [], _∷_, _++_, map, List·Memᴰ, List·Memᴰ·head, List·Memᴰ·tail}
+use mathlib.Core.List.{List, [], _∷_, _++_, map, List·Memᴰ, List·Memᴰ·head, List·Memᴰ·tail, flatten}
 use lib.Dec.{ltb}
 use lib.ListN.{length, length-append, length-take}
-use Rattle.theory.specs.Tests.{pick, concat, upFrom, Says, holds, fails}
+use Rattle.theory.specs.Tests.{pick, upFrom, Says, holds, fails}
 use Rattle.theory.specs.Query.{Bytes, readQuery, queryRefusal}
 use Rattle.theory.specs.Refusals.{passed}
 use Rattle.theory.specs.Closure.{More}
 use Rattle.theory.specs.Construction.{Node, State, nodes, maxNodes, maxStates}
-use Rattle.theory.specs.Table.{statesIn, producedIn, setsIn, startIn, rowIn}
+use Rattle.theory.specs.Table.{statesIn, producedIn, setsIn, startIn, rowIn, heldNumber}
 use Rattle.theory.specs.Build.{Outcome, refused, built, tableBytes, outcome, scratchLength}
-use Rattle.theory.specs.Listing.{digits, decimal, refusedWord, statesWord, nodesWord, startWord, stateWord, nextWord, heldWord, lineEnd, spaced, heldNumber, countsLine, startLine, stateLine, tableListing, listed, longestTable, listing}
+use Rattle.theory.specs.Listing.{decimalWithin, decimal, refusedLabel, statesLabel, nodesLabel, startLabel, stateLabel, nextLabel, heldLabel, lineEnd, spaced, countsLine, startLine, stateLine, tableListing, listed, longestTable, listing}
 use Rattle.theory.specs.Lookups.{Faithful}
 use Rattle.theory.proofs.Reflect.{says-ltb}
 use Rattle.theory.proofs.ListLaws.{upFrom-length, member-upFrom, getD-member}
@@ -42,20 +42,20 @@ joined : {x y : Bytes} {m n : ℕ} → Short x m → Short y n → Short (x ++ y
 joined s t = record { short = rw length-append (omega arith) }
 
 -- at most k pieces, each of at most w bytes
-pieces : (piece : ℕ → Bytes) (w : ℕ) (l : List ℕ) → ((x : ℕ) → List·Memᴰ x l → Short (piece x) w) → length (concat (map piece l)) ≤ length l * w
+pieces : (piece : ℕ → Bytes) (w : ℕ) (l : List ℕ) → ((x : ℕ) → List·Memᴰ x l → Short (piece x) w) → length (flatten (map piece l)) ≤ length l * w
 pieces piece w [] h = omega arith
 pieces piece w (x ∷ l) h =
     rw (suc-mul, length-append) (omega (arith, h x (List·Memᴰ·head refl) .short, pieces piece w l (λ y m. h y (List·Memᴰ·tail m))))
 
-some-pieces : {piece : ℕ → Bytes} {w : ℕ} (k : ℕ) (l : List ℕ) → ((x : ℕ) → List·Memᴰ x l → Short (piece x) w) → length l ≤ k → Short (concat (map piece l)) (k * w)
+some-pieces : {piece : ℕ → Bytes} {w : ℕ} (k : ℕ) (l : List ℕ) → ((x : ℕ) → List·Memᴰ x l → Short (piece x) w) → length l ≤ k → Short (flatten (map piece l)) (k * w)
 some-pieces {piece} {w} k l h m = record { short = le-trans (pieces piece w l h) (mul-le-mul-right w m) }
 
--- a number: at most as many digits as are counted, and at most j + 1 where it is below the power j + 1 of ten
-digits-short : (k n : ℕ) → Short (digits k n) k
-digits-short zero n = record { short = omega arith }
-digits-short (suc k) n = record { short = rw length-append (go (ltb n 10) (digits-short k (n / 10))) }
+-- a number: at most as many decimalWithin as are counted, and at most j + 1 where it is below the power j + 1 of ten
+decimal-short : (k n : ℕ) → Short (decimalWithin k n) k
+decimal-short zero n = record { short = omega arith }
+decimal-short (suc k) n = record { short = rw length-append (go (ltb n 10) (decimal-short k (n / 10))) }
   where
-    go : (t : Bool) → Short (digits k (n / 10)) k → length (pick t [] (digits k (n / 10))) + 1 ≤ suc k
+    go : (t : Bool) → Short (decimalWithin k (n / 10)) k → length (pick t [] (decimalWithin k (n / 10))) + 1 ≤ suc k
     go true h = omega arith
     go false h = omega arith
 
@@ -63,12 +63,12 @@ abbrev powerOfTen : ℕ → ℕ
 powerOfTen zero = 1
 powerOfTen (suc j) = 10 * powerOfTen j
 
-digits-few : (k j n : ℕ) → n < powerOfTen (suc j) → Short (digits k n) (suc j)
+digits-few : (k j n : ℕ) → n < powerOfTen (suc j) → Short (decimalWithin k n) (suc j)
 digits-few zero j n h = record { short = omega arith }
 digits-few (suc k) j n h = record { short = rw length-append (go j h (λ i. digits-few k i (n / 10)) (says-ltb n 10)) }
   where
-    go : (j : ℕ) → n < powerOfTen (suc j) → ((i : ℕ) → n / 10 < powerOfTen (suc i) → Short (digits k (n / 10)) (suc i)) →
-        {t : Bool} → Says (n < 10) t → length (pick t [] (digits k (n / 10))) + 1 ≤ suc j
+    go : (j : ℕ) → n < powerOfTen (suc j) → ((i : ℕ) → n / 10 < powerOfTen (suc i) → Short (decimalWithin k (n / 10)) (suc i)) →
+        {t : Bool} → Says (n < 10) t → length (pick t [] (decimalWithin k (n / 10))) + 1 ≤ suc j
     go j h rest (holds l) = omega arith
     go zero h rest (fails f) = absurd (f (omega arith))
     go (suc j) h rest (fails f) = omega (arith, rest j (omega arith) .short)
@@ -80,7 +80,7 @@ spaced-number : (n : ℕ) → n < 1000 → Short (spaced n) 4
 spaced-number n h = joined (word (32 ∷ [])) (number n h)
 
 refusal-short : (n : ℕ) → Short (listed (refused n)) 14
-refusal-short n = joined (word refusedWord) (joined (digits-short 5 n) (word lineEnd))
+refusal-short n = joined (word refusedLabel) (joined (decimal-short 5 n) (word lineEnd))
 
 -- the lines of a table that was built
 module _ {query t : Bytes} {n : ℕ} (b : Built query t n) where
@@ -93,14 +93,14 @@ module _ {query t : Bytes} {n : ℕ} (b : Built query t n) where
   counts-short : Short (countsLine t n) 21
   unfolding countsLine
   counts-short =
-      joined (word statesWord)
+      joined (word statesLabel)
       (joined (number (statesIn t) (omega (arith, form .few-states)))
-      (joined (word nodesWord) (joined (number n (omega (arith, b .count-is, b .few-nodes))) (word lineEnd))))
+      (joined (word nodesLabel) (joined (number n (omega (arith, b .count-is, b .few-nodes))) (word lineEnd))))
 
   start-short : (p : ℕ) → p < producedIn t → Short (startLine t p) 14
   unfolding startLine
   start-short p h =
-      joined (word startWord)
+      joined (word startLabel)
       (joined (number p (omega (arith, form .few-produced)))
       (joined (spaced-number (startIn t p) (omega (arith, form .few-states, faithful .start-below p h))) (word lineEnd)))
 
@@ -115,11 +115,11 @@ module _ {query t : Bytes} {n : ℕ} (b : Built query t n) where
   unfolding stateLine
   state-short state h =
       let row : length (rowIn t state) ≤ 8 = rw length-take (omega (arith, form .few-sets)) in
-      joined (word stateWord)
+      joined (word stateLabel)
       (joined (number state (omega (arith, form .few-states)))
-      (joined (word nextWord)
+      (joined (word nextLabel)
       (joined (some-pieces 8 (rowIn t state) (λ x m. spaced-number x (row-below state x h m)) row)
-      (joined (word heldWord) (joined (digits-short 5 (heldNumber t state)) (word lineEnd))))))
+      (joined (word heldLabel) (joined (decimal-short 5 (heldNumber t state)) (word lineEnd))))))
 
   table-short : Short (tableListing t n) longestListing
   unfolding tableListing

@@ -9,7 +9,7 @@ use lib.Seq.{take-at, length-paste}
 use Rattle.theory.specs.Refusals.{passed}
 use Rattle.theory.specs.Query.{Bytes}
 use Rattle.theory.specs.Build.{Outcome, refused, built, outcome, written, outputAfter, scratchLength}
-use Rattle.theory.specs.Listing.{decimal, refusedWord, lineEnd, tableListing, listed, listing, longestTable}
+use Rattle.theory.specs.Listing.{decimal, refusedLabel, lineEnd, tableListing, listed, listing, longestTable}
 use Rattle.theory.proofs.DemandThree.{built-facts}
 use Rattle.table.specs.Form.{Formed}
 use Rattle.listing.specs.Text.{Printed}
@@ -19,7 +19,7 @@ use Rattle.builder.proofs.AnswerLaws.{granted, built-formed}
 use Rattle.builder.specs.declared.construct.Built as answer
 
 -- the line of a refusal
-refused-line : (o : Outcome) → answerOf o .refusal ≢ passed → refusedWord ++ (decimal (answerOf o .refusal) ++ lineEnd) ≡ listed o
+refused-line : (o : Outcome) → answerOf o .refusal ≢ passed → refusedLabel ++ (decimal (answerOf o .refusal) ++ lineEnd) ≡ listed o
 refused-line (refused n) h = refl
 refused-line (built t n) h = absurd (h refl)
 
@@ -45,7 +45,7 @@ module _ (query work : Bytes) (w : length work ≡ scratchLength) {r : answer.Bu
   refusal-is = ap (λ (x : answer.Built). x .refusal) answer-is
 
   -- with a refusal, the listing is its line ..
-  pub refused-listing : r .refusal ≢ passed → refusedWord ++ (decimal (r .refusal) ++ lineEnd) ≡ listing query
+  pub refused-listing : r .refusal ≢ passed → refusedLabel ++ (decimal (r .refusal) ++ lineEnd) ≡ listing query
   unfolding listing
   refused-listing h = rw refusal-is (refused-line o (λ z. h (refusal-is ∙ z)))
 

@@ -5,10 +5,10 @@ use native.Mathlib.Numerals.{add-one}
 use native.Mathlib.Omega.{arith}
 use mathlib.Core.Path.{_≡_, refl, sym, _∙_, ap, subst}
 use mathlib.Core.Bool.{Bool}
-use mathlib.Core.List.{List, [], _∷_, map, List·Memᴰ·head, List·Memᴰ·not-nil}
+use mathlib.Core.List.{List, [], _∷_, map, List·Memᴰ·head, List·Memᴰ·not-nil, flatten}
 use lib.ListN.{length, take, drop, getD, set, length-take, length-drop}
 use lib.Seq.{length-take-le, drop-cons, drop-length, getD-take, getD-drop, getD-set-same, getD-set-other, ext-getD}
-use Rattle.theory.specs.Tests.{Says, holds, fails, concat}
+use Rattle.theory.specs.Tests.{Says, holds, fails}
 use Rattle.theory.specs.Closure.{add, addAll}
 use Rattle.theory.specs.Construction.{Marks, sameMarks, startState, setNumbers, statesWithin, maxStates}
 use Rattle.theory.specs.Query.{Bytes, byteAt, setCount, readQuery}
@@ -77,7 +77,7 @@ visited-all {b} {work} {starts} {count} small wide room begun v =
     let long = listed-count (v .listed) in
     let few = v .listed .few in
     let all : statesOf b ≡ v .states = v .ahead ∙ walk-end sameMarks (λ ms. map (taken b ms) (setNumbers (readQuery b))) maxStates (129 - count) (v .states) count (omega arith) in
-    let total : length (concat (contentsOf b .successors)) ≡ count * setCount b = successors-count b ∙ ap (λ n. n * setCount b) (ap length all ∙ long) in
+    let total : length (flatten (contentsOf b .successors)) ≡ count * setCount b = successors-count b ∙ ap (λ n. n * setCount b) (ap length all ∙ long) in
     let low : count * setCount b ≤ 128 * 8 = mul-le-mul {n₂ = 128} few small in
     let size : length (take (length (readQuery b .produced)) starts) ≡ length (readQuery b .produced) = length-take-le (length (readQuery b .produced)) starts wide in
     let span : length (take (count * setCount b) (drop 4096 work)) ≡ count * setCount b = simp (length-take, length-drop) (omega arith) in
@@ -87,7 +87,7 @@ visited-all {b} {work} {starts} {count} small wide room begun v =
       first = ext-getD 0 (take (length (readQuery b .produced)) starts) (contentsOf b .starts) (size ∙ sym (starts-count b))
           (λ j l. let h : j < length (readQuery b .produced) = omega arith in getD-take (length (readQuery b .produced)) starts j 0 h ∙ begun j h);
       next =
-          subst (λ w. take (count * w) (drop successorsPart work) ≡ concat (contentsOf b .successors)) (sym (sets-are b))
-          (ext-getD 0 (take (count * setCount b) (drop 4096 work)) (concat (contentsOf b .successors)) (span ∙ sym total)
+          subst (λ w. take (count * w) (drop successorsPart work) ≡ flatten (contentsOf b .successors)) (sym (sets-are b))
+          (ext-getD 0 (take (count * setCount b) (drop 4096 work)) (flatten (contentsOf b .successors)) (span ∙ sym total)
           (λ j l. let h : j < count * setCount b = omega arith in getD-take (count * setCount b) (drop 4096 work) j 0 h ∙ getD-drop 4096 work j 0 ∙ v .stored j h));
     }

@@ -2,15 +2,15 @@
 use Prim.Native.Nat.{ℕ, _+_, _*_, _<_}
 use native.Mathlib.Nat.{zero-add}
 use mathlib.Core.Path.{_≡_, refl, sym, _∙_, ap, subst}
-use mathlib.Core.List.{List, [], map, append-nil, List·Memᴰ, Memᴰ·of-map}
+use mathlib.Core.List.{List, [], map, append-nil, List·Memᴰ, Memᴰ·of-map, flatten}
 use lib.ListN.{length, take, drop, getD, length-map}
 use lib.Seq.{getD-take, getD-drop}
-use Rattle.theory.specs.Tests.{position, concat}
+use Rattle.theory.specs.Tests.{position}
 use Rattle.theory.specs.Construction.{Marks, sameMarks, startState, setNumbers}
 use Rattle.theory.specs.Query.{Bytes, setCount, readQuery}
 use Rattle.theory.specs.Table.{tableOf}
 use Rattle.theory.proofs.ListLaws.{upFrom-length, upFrom-getD}
-use Rattle.theory.proofs.RowLaws.{getD-map, concat-length, row-of-rows}
+use Rattle.theory.proofs.RowLaws.{getD-map, flatten-length, row-of-rows}
 use Rattle.closure.specs.Work.{nodesOf, statesOf, contentsOf}
 use Rattle.states.specs.States.{taken}
 
@@ -39,20 +39,20 @@ module _ (b : Bytes) where
   unfolding tableOf
   starts-count = length-map (readQuery b .produced) _
 
-  pub successors-count : length (concat (contentsOf b .successors)) ≡ length (statesOf b) * setCount b
+  pub successors-count : length (flatten (contentsOf b .successors)) ≡ length (statesOf b) * setCount b
   unfolding tableOf rowOf numberOf
-  successors-count = concat-length (setCount b) (map rowOf (statesOf b)) wide ∙ ap (λ n. n * setCount b) (length-map (statesOf b) rowOf)
+  successors-count = flatten-length (setCount b) (map rowOf (statesOf b)) wide ∙ ap (λ n. n * setCount b) (length-map (statesOf b) rowOf)
 
-  pub successors-at : (i s : ℕ) → i < length (statesOf b) → s < setCount b → getD (concat (contentsOf b .successors)) (i * setCount b + s) 0 ≡ position sameMarks (taken b (getD (statesOf b) i []) s) (statesOf b)
+  pub successors-at : (i s : ℕ) → i < length (statesOf b) → s < setCount b → getD (flatten (contentsOf b .successors)) (i * setCount b + s) 0 ≡ position sameMarks (taken b (getD (statesOf b) i []) s) (statesOf b)
   unfolding tableOf rowOf numberOf
   successors-at i s h l =
       let rows = map rowOf (statesOf b) in
       let w = setCount b in
-      let row : take w (drop (0 + i * w) (concat rows)) ≡ getD rows i [] =
-      ap (λ k. take w (drop (0 + i * w) k)) (sym (append-nil (concat rows))) ∙ row-of-rows w 0 [] rows [] i wide refl (subst (λ n. i < n) (sym (length-map (statesOf b) rowOf)) h) in
-      ap (λ k. getD (concat rows) (k + s) 0) (sym (zero-add (i * w)))
-      ∙ sym (getD-drop (0 + i * w) (concat rows) s 0)
-      ∙ sym (getD-take w (drop (0 + i * w) (concat rows)) s 0 l)
+      let row : take w (drop (0 + i * w) (flatten rows)) ≡ getD rows i [] =
+      ap (λ k. take w (drop (0 + i * w) k)) (sym (append-nil (flatten rows))) ∙ row-of-rows w 0 [] rows [] i wide refl (subst (λ n. i < n) (sym (length-map (statesOf b) rowOf)) h) in
+      ap (λ k. getD (flatten rows) (k + s) 0) (sym (zero-add (i * w)))
+      ∙ sym (getD-drop (0 + i * w) (flatten rows) s 0)
+      ∙ sym (getD-take w (drop (0 + i * w) (flatten rows)) s 0 l)
       ∙ ap (λ r. getD r s 0) (row ∙ getD-map rowOf (statesOf b) i [] [] h)
       ∙ getD-map (λ n. numberOf (taken b (getD (statesOf b) i []) n)) (setNumbers (readQuery b)) s 0 0 (rw upFrom-length (rw sets-are l))
       ∙ ap (λ n. numberOf (taken b (getD (statesOf b) i []) n)) (upFrom-getD 0 (readQuery b .sets) s 0 (rw sets-are l) ∙ zero-add s)

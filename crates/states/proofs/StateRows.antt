@@ -11,7 +11,7 @@ use Rattle.theory.specs.Tests.{upFrom, position}
 use Rattle.theory.specs.Query.{Bytes, byteAt, rowAt}
 use Rattle.theory.proofs.Reflect.{decides-order}
 use Rattle.theory.proofs.RowLaws.{entries}
-use Rattle.query.proofs.Searches.{entry-at, entry-count}
+use Rattle.theory.proofs.RangeLaws.{entry-at, entry-count}
 use Rattle.closure.specs.Work.{stateRows}
 use Rattle.states.specs.States.{sameRow}
 use Rattle.states.proofs.PositionLaws.{position-is}

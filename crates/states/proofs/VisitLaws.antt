@@ -5,10 +5,10 @@ use native.Mathlib.Numerals.{add-one}
 use native.Mathlib.Omega.{arith}
 use mathlib.Core.Path.{_≡_, refl, sym, _∙_, ap, subst}
 use mathlib.Core.Bool.{Bool}
-use mathlib.Core.List.{List, [], _∷_, map, List·Memᴰ·head, IsPrefix}
+use mathlib.Core.List.{List, [], _∷_, map, List·Memᴰ·head, IsPrefix, flatten}
 use lib.ListN.{length, drop, getD, set, length-set, length-append}
 use lib.Seq.{getD-drop, getD-set-same, getD-set-other}
-use Rattle.theory.specs.Tests.{Says, holds, fails, position, concat, upFrom}
+use Rattle.theory.specs.Tests.{Says, holds, fails, position, upFrom}
 use Rattle.theory.specs.Closure.{add, addAll}
 use Rattle.theory.specs.Construction.{Marks, sameMarks, setNumbers, maxStates}
 use Rattle.theory.specs.Query.{Bytes, byteAt, setCount, readQuery}
@@ -108,7 +108,7 @@ module _ {b work : Bytes} {count i : ℕ} where
         let low : at < 1024 = slot-bound (setCount b) i s small (omega arith) h in
         let final = ahead-prefix b grown rest (128 - i) (suc i) (on h) in
         let first : i < length grown = omega (arith, listed-count (j .fits few)) in
-        let written : number ≡ getD (concat (contentsOf b .successors)) at 0 =
+        let written : number ≡ getD (flatten (contentsOf b .successors)) at 0 =
         j .place few ∙ sym (prefix-position decides-marks grown final ms (addAll-has decides-marks (ms ∷ []) (v .states) ms (List·Memᴰ·head refl)))
         ∙ ap (λ k. position sameMarks (taken b k s) (statesOf b)) (sym (prefix-getD grown final i [] first ∙ prefix-getD (v .states) (addAll-keeps decides-marks (ms ∷ []) (v .states)) i [] (omega (arith, v .here, listed-count (v .listed)))))
         ∙ sym (successors-at b i s (omega (arith, prefix-length grown final)) h) in
@@ -120,8 +120,8 @@ module _ {b work : Bytes} {count i : ℕ} where
           stored = λ k l. go k (omega arith) (says-eqb k at) written (omega arith);
         }
       where
-        go : (k : ℕ) → k < i * setCount b + s + 1 → {t : Bool} → Says (k ≡ i * setCount b + s) t → number ≡ getD (concat (contentsOf b .successors)) (i * setCount b + s) 0
+        go : (k : ℕ) → k < i * setCount b + s + 1 → {t : Bool} → Says (k ≡ i * setCount b + s) t → number ≡ getD (flatten (contentsOf b .successors)) (i * setCount b + s) 0
             → successorsPart + (i * setCount b + s) < length after
-            → byteAt (set after (successorsPart + (i * setCount b + s)) number) (successorsPart + k) ≡ getD (concat (contentsOf b .successors)) k 0
+            → byteAt (set after (successorsPart + (i * setCount b + s)) number) (successorsPart + k) ≡ getD (flatten (contentsOf b .successors)) k 0
         go k l (holds e) w r = rw e (getD-set-same after (successorsPart + (i * setCount b + s)) number 0 r ∙ w)
         go k l (fails n) w r = getD-set-other after (successorsPart + (i * setCount b + s)) (successorsPart + k) number 0 (omega arith) ∙ behind-kept work after (j .behind) k ∙ v .stored k (omega arith)

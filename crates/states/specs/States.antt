@@ -3,10 +3,10 @@
 use Prim.Native.Nat.{ℕ, suc, _+_, _*_, _-_, _≤_, _<_}
 use mathlib.Core.Path.{_≡_}
 use mathlib.Core.Bool.{Bool}
-use mathlib.Core.List.{List, [], map, List·Memᴰ}
+use mathlib.Core.List.{List, [], map, List·Memᴰ, flatten}
 use lib.Dec.{eqb}
 use lib.ListN.{length, drop, getD}
-use Rattle.theory.specs.Tests.{sameList, position, concat, upFrom}
+use Rattle.theory.specs.Tests.{sameList, position, upFrom}
 use Rattle.theory.specs.Orders.{Order}
 use Rattle.theory.specs.Closure.{add, addAll, walk}
 use Rattle.theory.specs.Construction.{Marks, sameMarks, startState, takeSet, setNumbers, maxStates}
@@ -56,7 +56,7 @@ abbrev pub StartsIn : Bytes → Bytes → ℕ → Type 0
 StartsIn b starts m = (j : ℕ) → j < m → byteAt starts j ≡ getD (contentsOf b .starts) j 0
 
 abbrev pub SuccessorsIn : Bytes → Bytes → ℕ → Type 0
-SuccessorsIn b work m = (j : ℕ) → j < m → byteAt work (successorsPart + j) ≡ getD (concat (contentsOf b .successors)) j 0
+SuccessorsIn b work m = (j : ℕ) → j < m → byteAt work (successorsPart + j) ≡ getD (flatten (contentsOf b .successors)) j 0
 
 -- The starts before number p are numbered, and the walk from what they and the others give has all states.
 pub record Started (b work starts : Bytes) (count p : ℕ) : Type 0 where

@@ -13,6 +13,10 @@ use Rattle.theory.specs.Closure.{Found, first, next, More, add, addAll, 
 use Rattle.theory.proofs.Reflect.{says-member, says-ltb, says-as}
 use Rattle.theory.proofs.ListLaws.{Within, member-drop, distinct-snoc, distinct-length}
 
+-- more things have a property that follows
+pub more-as : {A : Type 0} {n : ℕ} {P Q : A → Type 0} → ((x : A) → P x → Q x) → More n P → More n Q
+more-as f m = record { things = m .things; different = m .different; many = m .many; each = λ x k. f x (m .each x k) }
+
 module _ {A : Type 0} {same : A → A → Bool} (dec : Decides same) where
   -- what is kept by appending a new thing is kept by adding one, by adding several, and by the walk
   add-ind : (Q : List A → Type 0) {l : List A} (x : A) → Q l → (¬ List·Memᴰ x l → Q (l ++ (x ∷ []))) → Q (add same l x)

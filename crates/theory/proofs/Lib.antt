@@ -3,6 +3,7 @@ pub mod Reflect
 pub mod ListLaws
 pub mod PositionLaws
 pub mod ClosureLaws
+pub mod MachineLaws
 pub mod WalkLaws
 pub mod RowTheorem
 pub mod PlaceLaws
@@ -12,14 +13,16 @@ pub mod KeptLaws
 pub mod CutTheorem
 pub mod NodeLaws
 pub mod StateLaws
-pub mod NumberedLaws
 pub mod RepeatLaws
-pub mod BuildLaws
 pub mod Picks
 pub mod RefusalLaws
 pub mod QueryLaws
 pub mod RowLaws
+pub mod RangeLaws
 pub mod TableLaws
+pub mod MachineTable
 pub mod LookupLaw
 pub mod Faithfulness
+pub mod BuildLaws
+pub mod ConstructionLaws
 pub mod DemandThree

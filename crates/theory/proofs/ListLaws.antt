@@ -4,9 +4,9 @@ use native.Mathlib.Nat.{le-of-suc-le-suc, not-suc-le-zero, eq-or-lt-of-le}
 use native.Mathlib.Omega.{arith}
 use mathlib.Core.Path.{_≡_, refl, sym, _∙_, ap, subst}
 use mathlib.Core.Logic.{⊎-elim}
-use mathlib.Core.List.{List, [], _∷_, _++_, map, List·Memᴰ, List·Memᴰ·head, List·Memᴰ·tail, List·Memᴰ·not-nil, List·Memᴰ·cases-cons, List·Memᴰ·append-cases, List·Memᴰ·eq-of-singleton, Memᴰ·append-left, Memᴰ·append-right, Memᴰ·cast, Memᴰ·map, Memᴰ·of-map}
+use mathlib.Core.List.{List, [], _∷_, _++_, map, List·Memᴰ, List·Memᴰ·head, List·Memᴰ·tail, List·Memᴰ·not-nil, List·Memᴰ·cases-cons, List·Memᴰ·append-cases, List·Memᴰ·eq-of-singleton, Memᴰ·append-left, Memᴰ·append-right, Memᴰ·cast, Memᴰ·map, Memᴰ·of-map, flatten}
 use lib.ListN.{length, drop, getD, length-append}
-use Rattle.theory.specs.Tests.{Distinct, empty, also, concat, upFrom}
+use Rattle.theory.specs.Tests.{Distinct, empty, also, upFrom}
 
 module _ {A : Type 0} where
   -- every element of the first list is in the second
@@ -63,25 +63,27 @@ module _ {A : Type 0} where
       (arith, simp length-append at (ap length (r .whole)), simp length-append at fewer)
 
   -- an element of lists one after the other is an element of one of them
-  pub member-concat : {x : A} (ls : List (List A)) → List·Memᴰ x (concat ls) → (l : List A) × List·Memᴰ l ls × List·Memᴰ x l
-  member-concat [] m = absurd (List·Memᴰ·not-nil m)
-  member-concat (l ∷ ls) m =
-      ⊎-elim (λ k. (l, List·Memᴰ·head refl, k)) (λ k. let r = member-concat ls k in (r .0, List·Memᴰ·tail (r .1), r .2)) (List·Memᴰ·append-cases l m)
+  pub member-flatten : {x : A} (ls : List (List A)) → List·Memᴰ x (flatten ls) → (l : List A) × List·Memᴰ l ls × List·Memᴰ x l
+  unfolding flatten
+  member-flatten [] m = absurd (List·Memᴰ·not-nil m)
+  member-flatten (l ∷ ls) m =
+      ⊎-elim (λ k. (l, List·Memᴰ·head refl, k)) (λ k. let r = member-flatten ls k in (r .0, List·Memᴰ·tail (r .1), r .2)) (List·Memᴰ·append-cases l m)
 
-  pub concat-member : {x : A} {l : List A} {ls : List (List A)} → List·Memᴰ l ls → List·Memᴰ x l → List·Memᴰ x (concat ls)
-  concat-member {x} {l} (List·Memᴰ·head {x = k} {xs = ls} e) m = Memᴰ·append-left (concat ls) (subst (λ (j : List A). List·Memᴰ x j) e m)
-  concat-member (List·Memᴰ·tail {x = k} n) m = Memᴰ·append-right k (concat-member n m)
+  pub flatten-member : {x : A} {l : List A} {ls : List (List A)} → List·Memᴰ l ls → List·Memᴰ x l → List·Memᴰ x (flatten ls)
+  unfolding flatten
+  flatten-member {x} {l} (List·Memᴰ·head {x = k} {xs = ls} e) m = Memᴰ·append-left (flatten ls) (subst (λ (j : List A). List·Memᴰ x j) e m)
+  flatten-member (List·Memᴰ·tail {x = k} n) m = Memᴰ·append-right k (flatten-member n m)
 
 module _ {A B : Type 0} (f : A → List B) where
   -- an element of what f gives along a list is given at one of its elements
-  pub member-concat-map : {y : B} (l : List A) → List·Memᴰ y (concat (map f l)) → (x : A) × List·Memᴰ x l × List·Memᴰ y (f x)
-  member-concat-map {y} l m =
-      let r = member-concat (map f l) m in
+  pub member-flatten-map : {y : B} (l : List A) → List·Memᴰ y (flatten (map f l)) → (x : A) × List·Memᴰ x l × List·Memᴰ y (f x)
+  member-flatten-map {y} l m =
+      let r = member-flatten (map f l) m in
       let s = Memᴰ·of-map f l (r .1) in
       (s .0, s .1, subst (λ (k : List B). List·Memᴰ y k) (sym (s .2)) (r .2))
 
-  pub concat-map-member : {x : A} {y : B} {l : List A} → List·Memᴰ x l → List·Memᴰ y (f x) → List·Memᴰ y (concat (map f l))
-  concat-map-member m k = concat-member (Memᴰ·map f m) k
+  pub flatten-map-member : {x : A} {y : B} {l : List A} → List·Memᴰ x l → List·Memᴰ y (f x) → List·Memᴰ y (flatten (map f l))
+  flatten-map-member m k = flatten-member (Memᴰ·map f m) k
 
 -- the numbers from k on
 pub member-upFrom : (k n : ℕ) {x : ℕ} → List·Memᴰ x (upFrom k n) → (k ≤ x) × (x < k + n)

@@ -1,22 +1,26 @@
 -- Whatever table is faithful to a query, every list of lookups that begins with a granted entry gets, lookup for lookup, the plain model's refusals
 -- and answers. Nothing is known of how the table came about: its faithfulness, the row theorem and the definitions of the lookups are all.
-use Prim.Native.Nat.{ℕ, _+_, _<_, _≤_}
+use Prim.Native.Nat.{ℕ, _+_, _/_, _%_, _^_, _<_, _≤_}
+use native.Mathlib.Nat.{zero-add}
 use native.Mathlib.Omega.{arith}
-use mathlib.Core.Path.{_≡_, refl}
+use mathlib.Core.Path.{_≡_, refl, sym, _∙_, ap, subst}
 use mathlib.Core.Bool.{Bool, true, false}
-use mathlib.Core.Logic.{⊎-elim}
-use mathlib.Core.List.{List, [], _∷_, _++_, List·Memᴰ, List·Memᴰ·head, List·Memᴰ·tail, List·Memᴰ·not-nil, List·Memᴰ·append-cases, List·Memᴰ·eq-of-singleton}
-use lib.Dec.{ltb}
+use mathlib.Core.List.{List, [], _∷_, _++_, List·Memᴰ·head}
+use lib.Dec.{ltb, eqb}
 use lib.ListN.{length, getD, length-append}
 use borrow.Author.Tests.{lt-ltb, le-ltb}
-use Rattle.theory.specs.Tests.{pick, Says, holds, fails}
+use Rattle.theory.specs.Tests.{pick, Says, holds, fails, upFrom}
 use Rattle.theory.specs.Orders.{Order, Query, interesting, After}
 use Rattle.theory.specs.Rows.{HoldsOfRows}
 use Rattle.theory.specs.Refusals.{handle-refused}
-use Rattle.theory.specs.Query.{Bytes}
-use Rattle.theory.specs.Table.{refuse, grant, enter, takeIn, ask, statesIn, producedIn, testedIn, setsIn, startIn, successorIn, heldBit}
-use Rattle.theory.specs.Lookups.{Lookup, entry, taking, asking, run, Answers, done, entry-refused, entry-granted, take-refused, take-granted, ask-refused, ask-granted, arrive, Faithful}
-use Rattle.theory.proofs.Reflect.{says-true, says-ltb}
+use Rattle.theory.specs.Machine.{AllBelow, runs}
+use Rattle.theory.specs.Query.{Bytes, byteAt}
+use Rattle.theory.specs.Table.{refuse, grant, enter, takeIn, ask, statesIn, producedIn, testedIn, setsIn, startIn, successorIn, heldIn, heldBit, heldOrders, machineIn, bit}
+use Rattle.theory.specs.Lookups.{Lookup, entry, taking, asking, run, Answers, done, entry-refused, entry-granted, take-refused, take-granted, ask-refused, ask-granted, Faithful}
+use Rattle.theory.proofs.Reflect.{says-true, says-eqb, says-ltb}
+use Rattle.theory.proofs.ListLaws.{upFrom-length, upFrom-getD}
+use Rattle.theory.proofs.RowLaws.{getD-map}
+use Rattle.theory.proofs.MachineLaws.{below-nil, below-tail, below-snoc, runs-snoc}
 
 -- a number is below a bound, written in two ways, or it is not
 below-or-not : {C : Type 0} (m : ℕ) {n k : ℕ} → n ≡ k → (m < n → m < k → C) → (n ≤ m → k ≤ m → C) → C
@@ -31,22 +35,22 @@ pick-same : {A : Type 0} (b : Bool) (x : A) → pick b x x ≡ x
 pick-same true x = refl
 pick-same false x = refl
 
--- each of the sets is below the bound
-abbrev Within : ℕ → List ℕ → Type 0
-Within n ss = (s : ℕ) → List·Memᴰ s ss → s < n
+-- a bit tested for 1 is that bit
+bit-tested : (x : ℕ) → x % 2 ≡ bit (eqb (x % 2) 1)
+bit-tested x = go (says-eqb (x % 2) 1)
+  where
+    go : {b : Bool} → Says (x % 2 ≡ 1) b → x % 2 ≡ bit b
+    go (holds e) = e
+    go (fails n) = omega arith
 
--- the empty list has no set to bound
-within-nil : (n : ℕ) → Within n []
-within-nil n s m = absurd (List·Memᴰ·not-nil m)
-
--- one more set below the bound keeps the list within it
-within-snoc : (n : ℕ) (ss : List ℕ) (s : ℕ) → Within n ss → s < n → Within n (ss ++ (s ∷ []))
-within-snoc n ss s b h r m = ⊎-elim (b r) (λ l. let e : r ≡ s = List·Memᴰ·eq-of-singleton l in omega arith) (List·Memᴰ·append-cases ss m)
-
--- a set more is one successor more
-arrive-snoc : (t : Bytes) (state : ℕ) (ss : List ℕ) (s : ℕ) → arrive t state (ss ++ (s ∷ [])) ≡ successorIn t (arrive t state ss) s
-arrive-snoc t state [] s = refl
-arrive-snoc t state (r ∷ ss) s = arrive-snoc t (successorIn t state r) ss s
+-- the held bit of an interesting order, from the list of held orders
+held-listed : (t : Bytes) (state i : ℕ) → i < producedIn t + testedIn t → heldBit t state i ≡ bit (getD (heldOrders t state) i false)
+held-listed t state i h =
+    let n = producedIn t + testedIn t in
+    let here : getD (heldOrders t state) i false ≡ eqb (heldBit t state i) 1 =
+    getD-map (λ k. eqb (heldBit t state k) 1) (upFrom 0 n) i false 0 (subst (λ k. i < k) (sym (upFrom-length 0 n)) h)
+    ∙ ap (λ k. eqb (heldBit t state k) 1) (upFrom-getD 0 n i 0 h ∙ zero-add i) in
+    bit-tested (byteAt (heldIn t state) (i / 8) / 2 ^ (i % 8)) ∙ ap bit (sym here)
 
 module _ {q : Query} {t : Bytes} (f : Faithful q t) where
   -- entering by a produced order grants its start, ..
@@ -85,40 +89,39 @@ module _ {q : Query} {t : Bytes} (f : Faithful q t) where
   interesting-size = rw (length-append, f .produced-size, f .tested-size)
 
   -- taking sets leads from a state to a state
-  arrive-below : (state : ℕ) (ss : List ℕ) → state < statesIn t → Within (setsIn t) ss → arrive t state ss < statesIn t
-  arrive-below state [] h b = h
-  arrive-below state (s ∷ ss) h b =
-      arrive-below (successorIn t state s) ss (f .successor-below state s h (b s (List·Memᴰ·head refl))) (λ r m. b r (List·Memᴰ·tail m))
+  runs-below : (state : ℕ) (ss : List ℕ) → state < statesIn t → AllBelow (setsIn t) ss → runs (machineIn t) state ss < statesIn t
+  runs-below state [] h b = h
+  runs-below state (s ∷ ss) h b = runs-below (successorIn t state s) ss (f .successor-below state s h (b s (List·Memᴰ·head refl))) (below-tail (setsIn t) b)
 
   -- the state from the start of a produced order through the sets
   abbrev at : ℕ → List ℕ → ℕ
-  at p ss = arrive t (startIn t p) ss
+  at p ss = runs (machineIn t) (startIn t p) ss
 
   -- it is a state of the table
-  at-below : (p : ℕ) (ss : List ℕ) → p < producedIn t → Within (setsIn t) ss → at p ss < statesIn t
-  at-below p ss h b = arrive-below (startIn t p) ss (f .start-below p h) b
+  at-below : (p : ℕ) (ss : List ℕ) → p < producedIn t → AllBelow (setsIn t) ss → at p ss < statesIn t
+  at-below p ss h b = runs-below (startIn t p) ss (f .start-below p h) b
 
   -- the row theorem is handed in
   module _ (rows : (p : Order) (ss : List ℕ) (o : Order) → After q p ss o → HoldsOfRows q p ss o) where
     -- from that state on, every list of lookups gets the model's answers
-    law : (p : ℕ) (ss : List ℕ) → p < producedIn t → Within (setsIn t) ss → (ls : List Lookup) →
+    law : (p : ℕ) (ss : List ℕ) → p < producedIn t → AllBelow (setsIn t) ss → (ls : List Lookup) →
         Answers q (getD (q .produced) p []) ss ls (run t (at p ss) ls)
     law p ss h b [] = done
     law p ss h b (entry k ∷ ls) =
         below-or-not k (f .produced-size)
-        (λ l m. rw (enter-granted-is k l) (entry-granted (startIn t k) m (law k [] l (within-nil (setsIn t)) ls)))
+        (λ l m. rw (enter-granted-is k l) (entry-granted (startIn t k) m (law k [] l (below-nil (setsIn t)) ls)))
         (λ l m. rw (enter-refused-is k l) (entry-refused m (law p ss h b ls)))
     law p ss h b (taking s ∷ ls) =
         below-or-not s (f .sets-size)
         (λ l m. rw (take-granted-is (at p ss) s (at-below p ss h b) l)
         (take-granted (successorIn t (at p ss) s) m
-        (rw (arrive-snoc t (startIn t p) ss s) at (law p (ss ++ (s ∷ [])) h (within-snoc (setsIn t) ss s b l) ls))))
+        (rw (runs-snoc (machineIn t) (startIn t p) ss s) at (law p (ss ++ (s ∷ [])) h (below-snoc (setsIn t) b l) ls))))
         (λ l m. rw (take-refused-is (at p ss) s l) (take-refused m (law p ss h b ls)))
     law p ss h b (asking i ∷ ls) =
         below-or-not i interesting-size
-        (λ l m. let e = f .bits p i ss h b l in
-        rw (ask-granted-is (at p ss) i (at-below p ss h b) l, e .2)
-        (ask-granted m (e .1) (λ y. rows (getD (q .produced) p []) ss (getD (interesting q) i []) (says-true (e .1) y)) (law p ss h b ls)))
+        (λ l m. let e = f .tells p i ss (subst (λ n. p < n) (f .produced-size) h) (subst (λ n. AllBelow n ss) (f .sets-size) b) m in
+        rw (ask-granted-is (at p ss) i (at-below p ss h b) l, held-listed t (at p ss) i l)
+        (ask-granted m e (λ y. rows (getD (q .produced) p []) ss (getD (interesting q) i []) (says-true e y)) (law p ss h b ls)))
         (λ l m. rw (ask-refused-is (at p ss) i l) (ask-refused m (law p ss h b ls)))
 
   -- a granted entry brings any state, and any model, to such a state, so a list that begins with one gets the model's answers throughout
@@ -127,4 +130,4 @@ module _ {q : Query} {t : Bytes} (f : Faithful q t) where
       Answers q p ss (entry h ∷ ls) (run t state (entry h ∷ ls))
   lookup-law rows h l ls p ss state =
       let k : h < producedIn t = omega (arith, f .produced-size) in
-      rw (enter-granted-is h k) (entry-granted (startIn t h) l (law rows h [] k (within-nil (setsIn t)) ls))
+      rw (enter-granted-is h k) (entry-granted (startIn t h) l (law rows h [] k (below-nil (setsIn t)) ls))

@@ -7,17 +7,15 @@ use mathlib.Core.List.{List, [], _∷_, _++_, map, append-nil, List·Memᴰ, Lis
 use lib.Dec.{ltb, eqb}
 use lib.ListN.{length}
 use Rattle.theory.specs.Tests.{Says, holds, fails, pick, Distinct}
+use Rattle.theory.specs.Limits.{maxNodes}
 use Rattle.theory.specs.Orders.{Order, Orderings, Rule, fix, equal, Dependency, Query, rulesIn, rulesOf, allRules, Same, Change, shorten, insert, behind, before, instead, Step, at, Reach, given, step, Taken, Start}
 use Rattle.theory.specs.Closure.{Found, first, next, More}
-use Rattle.theory.specs.Construction.{kept, steps, keptSteps, Node, nodes, maxNodes}
+use Rattle.theory.specs.Construction.{kept, steps, keptSteps, Node, nodes}
 use Rattle.theory.proofs.Reflect.{says-as, says-eqb, decides-order}
-use Rattle.theory.proofs.ClosureLaws.{closure-distinct, closure-found, closure-complete, closure-many}
+use Rattle.theory.proofs.ClosureLaws.{closure-distinct, closure-found, closure-complete, closure-many, more-as}
 use Rattle.theory.proofs.StepLaws.{member-step, step-member}
 use Rattle.theory.proofs.KeptLaws.{Within, reach-prefix}
 use Rattle.theory.proofs.CutTheorem.{rules-within, kept-cut, start-kept}
-
-pub more-as : {A : Type 0} {n : ℕ} {P Q : A → Type 0} → ((x : A) → P x → Q x) → More n P → More n Q
-more-as f m = record { things = m .things; different = m .different; many = m .many; each = λ x k. f x (m .each x k) }
 
 -- more rules give more steps
 change-more : {rs qs : List Rule} → ((r : Rule) → List·Memᴰ r rs → List·Memᴰ r qs) → {p s t : Order} → Change rs p s t → Change qs p s t

@@ -8,7 +8,7 @@ use mathlib.Core.Bool.{Bool, true, false, _||_, true≢false}
 use mathlib.Core.Logic.{⊎-elim}
 use borrow.Author.Tests.{ne-eqb}
 use Rattle.theory.specs.Tests.{pick, Says, holds, fails}
-use Rattle.theory.specs.Refusals.{passed, orElse, firstOf}
+use Rattle.theory.specs.Refusals.{passed, firstRefusal, firstOf}
 use Rattle.theory.proofs.Reflect.{says-eqb}
 
 -- where a test's refusal does not come, the test went the other way
@@ -24,7 +24,7 @@ pub neither : (s t : Bool) → (s || t) ≡ false → (s ≡ false) × (t ≡ fa
 neither false t e = (refl, e)
 neither true t e = absurd (true≢false e)
 
-pub or-passed : (a b : ℕ) → orElse a b ≡ passed → (a ≡ passed) × (b ≡ passed)
+pub or-passed : (a b : ℕ) → firstRefusal a b ≡ passed → (a ≡ passed) × (b ≡ passed)
 or-passed a b e = go (says-eqb a passed) e
   where
     go : {t : Bool} → Says (a ≡ passed) t → pick t b a ≡ passed → (a ≡ passed) × (b ≡ passed)

@@ -3,10 +3,12 @@ use Prim.Native.Nat.{ℕ}
 use mathlib.Core.Path.{_≡_, refl, sym, _∙_, subst}
 use mathlib.Core.Logic.{_↔_}
 use mathlib.Core.List.{List, [], _∷_, _++_, map, append-assoc, List·Memᴰ, Memᴰ·append-left}
-use lib.ListN.{length}
+use lib.ListN.{length, getD}
 use Rattle.theory.specs.Orders.{Order, Orderings, Rule, Query, rulesOf, sameOrder, Reach, given, Taken, Start, whole, After}
 use Rattle.theory.specs.Closure.{closure}
-use Rattle.theory.specs.Construction.{kept, keptSteps, KeptAfter, Node, Marks, marks, marked, prefixes, startState, takeSet, takeSets, State}
+use Rattle.theory.specs.Machine.{runs}
+use Rattle.theory.specs.Construction.{kept, keptSteps, KeptAfter, Node, Marks, marks, marked, prefixes, startState, takeSet, construction, State}
+use Rattle.theory.proofs.ListLaws.{member-getD}
 use Rattle.theory.proofs.KeptLaws.{Cut, Within, PrefixClosed, cut-whole, reach-prefix, reach-cut}
 use Rattle.theory.proofs.CutTheorem.{kept-cut, start-kept}
 use Rattle.theory.proofs.StateLaws.{Alike, reach-more, reach-again, reach-none, marks-exactly, marks-canonical, In, take-exactly, state-exactly}
@@ -75,7 +77,7 @@ module _ (q : Query) (ns : List Order) (exact : (o : Order) → List·Memᴰ o n
       closed n k = closure sameOrder (keptSteps q (rulesOf q n)) (length ns) (marked k ns)
 
   -- a state's marks are those of some orderings
-  state-marks : (ss : List ℕ) (ms : Marks) → (os : List Order) × (marks ns os ≡ ms) → (os : List Order) × (marks ns os ≡ takeSets q ns ms ss)
+  state-marks : (ss : List ℕ) (ms : Marks) → (os : List Order) × (marks ns os ≡ ms) → (os : List Order) × (marks ns os ≡ runs (construction q ns) ms ss)
   unfolding takeSet
   state-marks [] ms m = m
   state-marks (s ∷ ss) ms m = state-marks ss (takeSet q ns ms s) (closure sameOrder (keptSteps q (rulesOf q s)) (length ns) (marked ms ns), refl)
@@ -84,12 +86,13 @@ module _ (q : Query) (ns : List Order) (exact : (o : Order) → List·Memᴰ o n
   pub take-empty : (ms : Marks) (s : ℕ) → State q ns ms → rulesOf q s ≡ [] → takeSet q ns ms s ≡ ms
   unfolding takeSet startState
   take-empty ms s st e =
-      let p = st .start in
+      let p = getD (q .produced) (st .order) [] in
+      let among = member-getD (q .produced) (st .order) [] (st .produced) in
       let orders = state-marks (st .sets) (startState ns p) (prefixes p, refl) in
-      let same : marks ns (orders .0) ≡ ms = orders .1 ∙ st .reached in
-      let alike : Alike (In q ns exact ms) (KeptAfter q p (st .sets)) = subst (λ k. Alike (In q ns exact k) (KeptAfter q p (st .sets))) (st .reached) (state-exactly q ns exact p (st .produced) (st .sets)) in
+      let same : marks ns (orders .0) ≡ ms = orders .1 ∙ st .arrives in
+      let alike : Alike (In q ns exact ms) (KeptAfter q p (st .sets)) = subst (λ k. Alike (In q ns exact k) (KeptAfter q p (st .sets))) (st .arrives) (state-exactly q ns exact p among (st .sets)) in
       let whole : Whole (kept q) (KeptAfter q p (st .sets)) =
-      taken-whole (kept-cut q) (map (rulesOf q) (st .sets)) (Start p) (record { closed = start-closed p; own = start-kept q p (Memᴰ·append-left (q .tested) (st .produced)) }) in
+      taken-whole (kept-cut q) (map (rulesOf q) (st .sets)) (Start p) (record { closed = start-closed p; own = start-kept q p (Memᴰ·append-left (q .tested) among) }) in
       same-marks (closure sameOrder (keptSteps q (rulesOf q s)) (length ns) (marked ms ns)) (orders .0)
       (λ o. (
         λ k. subst (λ m. In q ns exact m o) (sym same) (alike o .1 (none-added (kept-cut q) (rulesOf q s) e (KeptAfter q p (st .sets)) whole o (reach-more (λ x m. alike x .0 m) o (take-exactly q ns exact s ms o .0 k)))),

@@ -5,15 +5,15 @@ use native.Mathlib.Omega.{arith}
 use mathlib.Core.Path.{_≡_, refl, sym, _∙_, ap, ap₂, subst}
 use mathlib.Core.Logic.{⊎-elim}
 use mathlib.Core.Bool.{Bool, true, false}
-use mathlib.Core.List.{List, [], _∷_, _++_, map, append-assoc, List·Memᴰ, List·Memᴰ·head, List·Memᴰ·tail, List·Memᴰ·cases-cons, List·Memᴰ·append-cases}
+use mathlib.Core.List.{List, [], _∷_, _++_, map, append-assoc, List·Memᴰ, List·Memᴰ·head, List·Memᴰ·tail, List·Memᴰ·cases-cons, List·Memᴰ·append-cases, flatten}
 use lib.ListN.{length, take, drop, getD, length-append}
 use lib.Pow.{pow-mono}
 use lib.Seq.{take-at, drop-append-add, getD-take, getD-drop}
-use Rattle.theory.specs.Tests.{concat, upFrom}
+use Rattle.theory.specs.Tests.{upFrom}
 use Rattle.theory.specs.Refusals.{passed, firstOf}
 use Rattle.theory.specs.Query.{byteAt, rowAt}
 use Rattle.theory.specs.Table.{bit, number, heldBytes}
-use Rattle.theory.proofs.ListLaws.{member-concat}
+use Rattle.theory.proofs.ListLaws.{member-flatten}
 
 module _ {A : Type 0} where
   -- an entry in bounds of a mapped list, whatever is read past the end
@@ -41,9 +41,9 @@ module _ {A : Type 0} where
   all-append k g h y m = ⊎-elim (g y) (h y) (List·Memᴰ·append-cases k m)
 
   -- what holds of the entries of each row holds of them end to end
-  pub all-concat : {P : A → Type 0} (rows : List (List A)) → ((r : List A) → List·Memᴰ r rows → (y : A) → List·Memᴰ y r → P y)
-      → (y : A) → List·Memᴰ y (concat rows) → P y
-  all-concat rows h y m = let r = member-concat rows m in h (r .0) (r .1) y (r .2)
+  pub all-flatten : {P : A → Type 0} (rows : List (List A)) → ((r : List A) → List·Memᴰ r rows → (y : A) → List·Memᴰ y r → P y)
+      → (y : A) → List·Memᴰ y (flatten rows) → P y
+  all-flatten rows h y m = let r = member-flatten rows m in h (r .0) (r .1) y (r .2)
 
 module _ (w : ℕ) where
   -- each row is w long
@@ -51,23 +51,25 @@ module _ (w : ℕ) where
   Wide rows = (r : List ℕ) → List·Memᴰ r rows → length r ≡ w
 
   -- the length of the rows end to end
-  pub concat-length : (rows : List (List ℕ)) → Wide rows → length (concat rows) ≡ length rows * w
-  concat-length [] h = sym (zero-mul w)
-  concat-length (r ∷ rows) h =
-      simp (length-append, suc-mul, h r (List·Memᴰ·head refl), concat-length rows (λ s m. h s (List·Memᴰ·tail m))) (omega arith)
+  pub flatten-length : (rows : List (List ℕ)) → Wide rows → length (flatten rows) ≡ length rows * w
+  unfolding flatten
+  flatten-length [] h = sym (zero-mul w)
+  flatten-length (r ∷ rows) h =
+      simp (length-append, suc-mul, h r (List·Memᴰ·head refl), flatten-length rows (λ s m. h s (List·Memᴰ·tail m))) (omega arith)
 
   -- row i, cut out of the rows end to end
-  row-of-concat : (rows : List (List ℕ)) (back : List ℕ) (i : ℕ) → Wide rows → i < length rows → take w (drop (i * w) (concat rows ++ back)) ≡ getD rows i []
-  row-of-concat [] back i h l = absurd (not-suc-le-zero l)
-  row-of-concat (r ∷ rows) back zero h l = rw (zero-mul, append-assoc) (take-at r (concat rows ++ back) w (h r (List·Memᴰ·head refl)))
-  row-of-concat (r ∷ rows) back (suc i) h l =
+  row-of-flatten : (rows : List (List ℕ)) (back : List ℕ) (i : ℕ) → Wide rows → i < length rows → take w (drop (i * w) (flatten rows ++ back)) ≡ getD rows i []
+  unfolding flatten
+  row-of-flatten [] back i h l = absurd (not-suc-le-zero l)
+  row-of-flatten (r ∷ rows) back zero h l = rw (zero-mul, append-assoc) (take-at r (flatten rows ++ back) w (h r (List·Memᴰ·head refl)))
+  row-of-flatten (r ∷ rows) back (suc i) h l =
       let e : length r ≡ w = h r (List·Memᴰ·head refl) in
-      rw (suc-mul, append-assoc, add-comm, ← e, drop-append-add, e) (row-of-concat rows back i (λ s m. h s (List·Memᴰ·tail m)) (le-of-suc-le-suc l))
+      rw (suc-mul, append-assoc, add-comm, ← e, drop-append-add, e) (row-of-flatten rows back i (λ s m. h s (List·Memᴰ·tail m)) (le-of-suc-le-suc l))
 
   -- row i, read where the rows begin at base, with anything before and behind them
   pub row-of-rows : (base : ℕ) (front : List ℕ) (rows : List (List ℕ)) (back : List ℕ) (i : ℕ) → Wide rows → length front ≡ base → i < length rows
-      → rowAt base w i (front ++ (concat rows ++ back)) ≡ getD rows i []
-  row-of-rows base front rows back i h e l = rw (← e, drop-append-add) (row-of-concat rows back i h l)
+      → rowAt base w i (front ++ (flatten rows ++ back)) ≡ getD rows i []
+  row-of-rows base front rows back i h e l = rw (← e, drop-append-add) (row-of-flatten rows back i h l)
 
 -- a bit is 0 or 1
 bit-below : (b : Bool) → bit b < 2

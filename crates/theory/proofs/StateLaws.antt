@@ -9,7 +9,8 @@ use lib.ListN.{length}
 use Rattle.theory.specs.Tests.{Says, member}
 use Rattle.theory.specs.Orders.{Order, Orderings, Rule, Query, interesting, rulesOf, Change, shorten, insert, behind, before, instead, at, Reach, given, step, Taken, Start, sameOrder, After}
 use Rattle.theory.specs.Closure.{Found, first, next, closure}
-use Rattle.theory.specs.Construction.{kept, keptSteps, KeptAfter, Node, Marks, marks, marked, prefixes, startState, takeSet, takeSets, holdsIn}
+use Rattle.theory.specs.Machine.{runs}
+use Rattle.theory.specs.Construction.{kept, keptSteps, KeptAfter, Node, Marks, marks, marked, prefixes, startState, takeSet, holdsIn, construction}
 use Rattle.theory.proofs.Reflect.{says-as, says-one, says-true, true-says, says-member, decides-order}
 use Rattle.theory.proofs.ClosureLaws.{closure-found, closure-complete, closure-few}
 use Rattle.theory.proofs.KeptLaws.{Within, PrefixClosed}
@@ -136,19 +137,19 @@ module _ (q : Query) (ns : List Order) (exact : (o : Order) → List·Memᴰ o n
           marks-exactly ns (closure sameOrder out (length ns) (marked ms ns)) o .1 (found-nodes o f, closure-complete decides-order out (length ns) (marked ms ns) few o f),
     )
 
-  pub takes-exactly : (ss : List ℕ) (ms : Marks) (X : Orderings) → Alike (In ms) X → Alike (In (takeSets q ns ms ss)) (Taken (kept q) X (map (rulesOf q) ss))
+  pub takes-exactly : (ss : List ℕ) (ms : Marks) (X : Orderings) → Alike (In ms) X → Alike (In (runs (construction q ns) ms ss)) (Taken (kept q) X (map (rulesOf q) ss))
   takes-exactly [] ms X f = f
   takes-exactly (s ∷ ss) ms X f =
       takes-exactly ss (takeSet q ns ms s) (Reach (kept q) (rulesOf q s) X)
       (λ o. (λ k. reach-more (λ x m. f x .0 m) o (take-exactly s ms o .0 k), λ r. take-exactly s ms o .1 (reach-more (λ x m. f x .1 m) o r)))
 
   -- A state's nodes are exactly the orderings that the construction has after the sets.
-  pub state-exactly : (p : Order) → List·Memᴰ p (q .produced) → (ss : List ℕ) → Alike (In (takeSets q ns (startState ns p) ss)) (KeptAfter q p ss)
+  pub state-exactly : (p : Order) → List·Memᴰ p (q .produced) → (ss : List ℕ) → Alike (In (runs (construction q ns) (startState ns p) ss)) (KeptAfter q p ss)
   state-exactly p m ss = takes-exactly ss (startState ns p) (Start p) (start-exactly p m)
 
   -- An interesting order is held there exactly when the uncut derivation gives it.
-  pub says-held : (p o : Order) (ss : List ℕ) → List·Memᴰ p (q .produced) → List·Memᴰ o (interesting q) → Says (After q p ss o) (holdsIn ns (takeSets q ns (startState ns p) ss) o)
+  pub says-held : (p o : Order) (ss : List ℕ) → List·Memᴰ p (q .produced) → List·Memᴰ o (interesting q) → Says (After q p ss o) (holdsIn ns (runs (construction q ns) (startState ns p) ss) o)
   says-held p o ss mp mo =
       let c = cut-theorem q p o ss mp mo in
       let e = state-exactly p mp ss o in
-      says-as (λ k. c .1 (e .0 k)) (λ a. e .1 (c .0 a)) (says-member decides-order o (marked (takeSets q ns (startState ns p) ss) ns))
+      says-as (λ k. c .1 (e .0 k)) (λ a. e .1 (c .0 a)) (says-member decides-order o (marked (runs (construction q ns) (startState ns p) ss) ns))

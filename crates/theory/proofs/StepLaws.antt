@@ -6,15 +6,15 @@ use native.Mathlib.Omega.{arith}
 use mathlib.Core.Path.{_≡_, refl, sym, _∙_, ap, subst, subst₂}
 use mathlib.Core.Bool.{Bool}
 use mathlib.Core.Logic.{_⊎_, inl, inr, ⊎-elim}
-use mathlib.Core.List.{List, [], _∷_, _++_, map, dropLast, append-nil, List·Memᴰ, List·Memᴰ·head, List·Memᴰ·not-nil, List·Memᴰ·append-cases, List·Memᴰ·eq-of-singleton, Memᴰ·append-left, Memᴰ·append-right}
+use mathlib.Core.List.{List, [], _∷_, _++_, map, dropLast, append-nil, List·Memᴰ, List·Memᴰ·head, List·Memᴰ·not-nil, List·Memᴰ·append-cases, List·Memᴰ·eq-of-singleton, Memᴰ·append-left, Memᴰ·append-right, flatten}
 use lib.Dec.{eqb}
 use lib.ListN.{length, take, drop, getD, length-append, take-append-drop}
 use lib.Seq.{split-at, take-append-seam, take-append-add, drop-append-seam, drop-append-add, getD-append-seam}
-use Rattle.theory.specs.Tests.{pick, Says, holds, fails, position, concat, upFrom}
+use Rattle.theory.specs.Tests.{pick, Says, holds, fails, position, upFrom}
 use Rattle.theory.specs.Orders.{Order, Rule, fix, equal, Same, Change, shorten, insert, behind, before, instead, Step, at}
 use Rattle.theory.specs.Construction.{replaceAt, behindAll, insertsFrom, replaces, equalResults, results, shorter, steps}
 use Rattle.theory.proofs.Reflect.{says-member, says-eqb, decides-number, true-says, false-says}
-use Rattle.theory.proofs.ListLaws.{member-drop, member-concat-map, concat-map-member, member-upFrom, upFrom-member}
+use Rattle.theory.proofs.ListLaws.{member-drop, member-flatten-map, flatten-map-member, member-upFrom, upFrom-member}
 use Rattle.theory.proofs.PlaceLaws.{position-below, below-position, position-at, lefts-before, before-lefts, member-inserts, inserts-member, member-take}
 
 -- a step, from the equations of its two ends
@@ -66,7 +66,7 @@ module _ {rs : List Rule} where
           ⊎-elim
           (λ k. let t = member-inserts (position eqb a o) b o k in step-at (take (t .0) o) (drop (t .0) o) (b ∷ drop (t .0) o) (take-append-drop (t .0) o) (t .3) (put here out (t .0) (eq-or-lt-of-le (t .1)) (t .2)))
           (λ k.
-          let t = member-concat-map (λ n. pick (eqb (getD o n 0) a) (replaceAt n b o ∷ []) []) (upFrom zero (length o)) k in
+          let t = member-flatten-map (λ n. pick (eqb (getD o n 0) a) (replaceAt n b o ∷ []) []) (upFrom zero (length o)) k in
           let u = member-upFrom zero (length o) (t .1) in
           swap out (t .0) (omega arith) (says-eqb (getD o (t .0) 0) a) (t .2))
           (List·Memᴰ·append-cases (insertsFrom (position eqb a o) b o) m)
@@ -79,7 +79,7 @@ module _ {rs : List Rule} where
   pub member-step : (o r : Order) → List·Memᴰ r (steps rs o) → Step rs o r
   unfolding steps
   member-step o r m =
-      ⊎-elim (λ k. shorter-step o k) (λ k. let t = member-concat-map (λ c. results c o) rs k in result-step (t .0) o (t .1) (t .2)) (List·Memᴰ·append-cases (shorter o) m)
+      ⊎-elim (λ k. shorter-step o k) (λ k. let t = member-flatten-map (λ c. results c o) rs k in result-step (t .0) o (t .1) (t .2)) (List·Memᴰ·append-cases (shorter o) m)
 
 -- the results of each change
 shorter-member : (p : Order) (x : ℕ) → List·Memᴰ (p ++ []) (shorter (p ++ (x ∷ [])))
@@ -126,12 +126,12 @@ module _ (a b : ℕ) where
       rw (true-says (says-eqb (getD o (length p) 0) a) (getD-append-seam p a s 0)) put in
       rw (true-says (says-member decides-number a o) here, false-says (says-member decides-number b o) out)
       (Memᴰ·append-right (insertsFrom (position eqb a o) b o)
-      (concat-map-member (λ n. pick (eqb (getD o n 0) a) (replaceAt n b o ∷ []) []) (upFrom-member zero (length o) zero-le (rw length-append (omega arith))) swapped))
+      (flatten-map-member (λ n. pick (eqb (getD o n 0) a) (replaceAt n b o ∷ []) []) (upFrom-member zero (length o) zero-le (rw length-append (omega arith))) swapped))
 
 module _ {rs : List Rule} where
   rule-member : {rule : Rule} (o : Order) {r : Order} → List·Memᴰ rule rs → List·Memᴰ r (results rule o) → List·Memᴰ r (steps rs o)
   unfolding steps
-  rule-member o m k = Memᴰ·append-right (shorter o) (concat-map-member (λ c. results c o) m k)
+  rule-member o m k = Memᴰ·append-right (shorter o) (flatten-map-member (λ c. results c o) m k)
 
   same-member : {a b : ℕ} (o : Order) {r : Order} → Same rs a b → List·Memᴰ r (equalResults a b o) → List·Memᴰ r (steps rs o)
   same-member {a} {b} o (inl m) k = rule-member o m (Memᴰ·append-left (equalResults b a o) k)
@@ -139,7 +139,7 @@ module _ {rs : List Rule} where
 
   change-member : {p s t : Order} → Change rs p s t → List·Memᴰ (p ++ t) (steps rs (p ++ s))
   unfolding steps
-  change-member {p} (shorten {x}) = Memᴰ·append-left (concat (map (λ c. results c (p ++ (x ∷ []))) rs)) (shorter-member p x)
+  change-member {p} (shorten {x}) = Memᴰ·append-left (flatten (map (λ c. results c (p ++ (x ∷ []))) rs)) (shorter-member p x)
   change-member {p} (insert {l} {r} {s} m w f g) = rule-member (p ++ s) m (fix-member l r p s w (outside-both p s f g))
   change-member {p} (behind {a} {b} {s} e m f g) =
       same-member (p ++ s) e (equal-insert-member a b p s (Memᴰ·append-left s m) (outside-both p s f g) (omega (arith, position-below a (length p) (p ++ s) (rw take-append-seam m))))

@@ -3,17 +3,16 @@ use Prim.Native.Nat.{ℕ, _+_, _*_, _^_, _<_, _≤_}
 use native.Mathlib.Omega.{arith}
 use mathlib.Core.Path.{_≡_, refl, sym, _∙_, ap}
 use mathlib.Core.Bool.{Bool, true, false}
-use mathlib.Core.List.{List, [], _∷_, _++_, map, append-assoc, append-nil, List·Memᴰ, List·Memᴰ·not-nil, Memᴰ·of-map}
+use mathlib.Core.List.{List, [], _∷_, _++_, map, append-assoc, append-nil, List·Memᴰ, List·Memᴰ·not-nil, Memᴰ·of-map, flatten}
 use lib.Dec.{eqb}
 use lib.ListN.{length, take, drop, getD, length-append, length-take, length-drop, length-map, List·getD-append}
 use lib.Seq.{getD-append-add}
 use borrow.Author.Tests.{eq-eqb, lt-ltb, le-ltb}
-use Rattle.theory.specs.Tests.{concat, upFrom}
 use Rattle.theory.specs.Refusals.{passed}
 use Rattle.theory.specs.Query.{Bytes, byteAt}
-use Rattle.theory.specs.Table.{Table, Sized, Numbered, bit, number, heldBytes, writeTable, tableLength, startIn, rowIn, successorIn, heldIn, heldBit, readTable, formRefusal, startsRefusal, successorsRefusal, heldRefusal, tableRefusal}
+use Rattle.theory.specs.Table.{Table, Sized, Numbered, bit, number, heldBytes, writeTable, tableLength, startIn, rowIn, successorIn, heldIn, heldBit, heldOrders, readTable, formRefusal, startsRefusal, successorsRefusal, heldRefusal, tableRefusal}
 use Rattle.theory.proofs.ListLaws.{member-getD}
-use Rattle.theory.proofs.RowLaws.{getD-map, entries, all-cons, all-append, all-concat, concat-length, row-of-rows, number-fits, number-split, held-bit, firstOf-passed}
+use Rattle.theory.proofs.RowLaws.{getD-map, entries, all-cons, all-append, all-flatten, flatten-length, row-of-rows, number-fits, number-split, held-bit, firstOf-passed}
 
 -- a bit tested for 1 is the Boolean that it came from
 eqb-bit : (b : Bool) → eqb (bit b) 1 ≡ b
@@ -29,22 +28,22 @@ module _ (t : Table) where
   heldRows = map heldBytes (t .held)
 
   abbrev arrays : Bytes
-  arrays = concat (t .successors) ++ concat heldRows
+  arrays = flatten (t .successors) ++ flatten heldRows
 
 module _ (t : Table) (z : Sized t) where
   -- the lengths of the parts
   starts-length : length (sizes t ++ t .starts) ≡ 4 + t .producedCount
   starts-length = omega arith
 
-  successors-length : length (concat (t .successors)) ≡ t .stateCount * t .setCount
-  successors-length = rw (← z .rows-count) (concat-length (t .setCount) (t .successors) (z .row-width))
+  successors-length : length (flatten (t .successors)) ≡ t .stateCount * t .setCount
+  successors-length = rw (← z .rows-count) (flatten-length (t .setCount) (t .successors) (z .row-width))
 
   held-wide : (r : Bytes) → List·Memᴰ r (heldRows t) → length r ≡ 2
   held-wide r m = ap length (sym (Memᴰ·of-map heldBytes (t .held) m .2))
 
   pub written-length : length (writeTable t) ≡ 4 + t .producedCount + t .stateCount * t .setCount + t .stateCount * 2
   unfolding writeTable
-  written-length = simp (length-append, successors-length, concat-length 2 (heldRows t) held-wide, length-map) (omega arith)
+  written-length = simp (length-append, successors-length, flatten-length 2 (heldRows t) held-wide, length-map) (omega arith)
 
   pub written-implied : length (writeTable t) ≡ tableLength (writeTable t)
   unfolding writeTable
@@ -56,15 +55,15 @@ module _ (t : Table) (z : Sized t) where
   written-start p l = getD-append-add (sizes t) (t .starts ++ arrays t) p 0 ∙ List·getD-append (t .starts) (arrays t) 0 p (omega arith)
 
   -- the successors: byte by byte, row by row, and by state and set
-  pub written-entry : (i : ℕ) → i < t .stateCount * t .setCount → byteAt (writeTable t) (4 + t .producedCount + i) ≡ getD (concat (t .successors)) i 0
+  pub written-entry : (i : ℕ) → i < t .stateCount * t .setCount → byteAt (writeTable t) (4 + t .producedCount + i) ≡ getD (flatten (t .successors)) i 0
   unfolding writeTable
   written-entry i l =
       (rw starts-length at (getD-append-add (sizes t ++ t .starts) (arrays t) i 0))
-      ∙ List·getD-append (concat (t .successors)) (concat (heldRows t)) 0 i (omega (arith, successors-length))
+      ∙ List·getD-append (flatten (t .successors)) (flatten (heldRows t)) 0 i (omega (arith, successors-length))
 
   pub written-row : (s : ℕ) → s < t .stateCount → rowIn (writeTable t) s ≡ getD (t .successors) s []
   unfolding writeTable
-  written-row s l = row-of-rows (t .setCount) _ (sizes t ++ t .starts) (t .successors) (concat (heldRows t)) s (z .row-width) starts-length (omega arith)
+  written-row s l = row-of-rows (t .setCount) _ (sizes t ++ t .starts) (t .successors) (flatten (heldRows t)) s (z .row-width) starts-length (omega arith)
 
   pub written-successor : (state s : ℕ) → state < t .stateCount → successorIn (writeTable t) state s ≡ getD (getD (t .successors) state []) s 0
   written-successor state s l = rw (written-row state l)
@@ -74,8 +73,8 @@ module _ (t : Table) (z : Sized t) where
   unfolding writeTable
   written-held-bytes s l =
       (rw (append-nil, append-assoc (t .starts)) at
-      (row-of-rows 2 (4 + t .producedCount + t .stateCount * t .setCount) (sizes t ++ (t .starts ++ concat (t .successors))) (heldRows t) [] s held-wide
-      (omega (arith, length-append (t .starts) (concat (t .successors)), successors-length)) (rw length-map (omega arith))))
+      (row-of-rows 2 (4 + t .producedCount + t .stateCount * t .setCount) (sizes t ++ (t .starts ++ flatten (t .successors))) (heldRows t) [] s held-wide
+      (omega (arith, length-append (t .starts) (flatten (t .successors)), successors-length)) (rw length-map (omega arith))))
       ∙ getD-map heldBytes (t .held) s [] [] (omega arith)
 
   held-count-at : (s : ℕ) → s < t .stateCount → length (getD (t .held) s []) ≡ t .producedCount + t .testedCount
@@ -86,7 +85,8 @@ module _ (t : Table) (z : Sized t) where
   written-held state i l k = rw (written-held-bytes state l) (held-bit (getD (t .held) state []) i (omega arith))
 
   -- reading the bytes gives the table that they were written from
-  held-back : (s : ℕ) → s < t .stateCount → map (λ i. eqb (heldBit (writeTable t) s i) 1) (upFrom 0 (t .producedCount + t .testedCount)) ≡ getD (t .held) s []
+  pub held-back : (s : ℕ) → s < t .stateCount → heldOrders (writeTable t) s ≡ getD (t .held) s []
+  unfolding writeTable
   held-back s l =
       entries _ (getD (t .held) s []) false (t .producedCount + t .testedCount) (held-count-at s l)
       (λ i k. ap (λ b. eqb b 1) (written-held s i l k) ∙ eqb-bit (getD (getD (t .held) s []) i false))
@@ -121,9 +121,9 @@ module _ (t : Table) (z : Sized t) where
       rw (written-held-bytes s l, number-split 8 h, lt-ltb (number h) (2 ^ n) (number-fits h n (omega (arith, held-count-at s l))))
 
   -- each byte of the held rows has 8 bits
-  held-small : (b : ℕ) → List·Memᴰ b (concat (heldRows t)) → b < 256
+  held-small : (b : ℕ) → List·Memᴰ b (flatten (heldRows t)) → b < 256
   held-small =
-      all-concat (heldRows t) λ r m b k.
+      all-flatten (heldRows t) λ r m b k.
       let (h, a, e) = Memᴰ·of-map heldBytes (t .held) m in
       let w : length h ≡ t .producedCount + t .testedCount = z .held-width h a in
       all-cons {P = λ n. n < 256} (number-fits (take 8 h) 8 (omega (arith, length-take 8 h)))
@@ -131,8 +131,8 @@ module _ (t : Table) (z : Sized t) where
 
   module _ (n : Numbered t) where
     -- each successor is the number of a state
-    successor-below : (k : ℕ) → List·Memᴰ k (concat (t .successors)) → k < t .stateCount
-    successor-below = all-concat (t .successors) (n .successors-below)
+    successor-below : (k : ℕ) → List·Memᴰ k (flatten (t .successors)) → k < t .stateCount
+    successor-below = all-flatten (t .successors) (n .successors-below)
 
     -- the check 11 of the starts and of the successors
     starts-passed : startsRefusal (writeTable t) ≡ passed
@@ -143,7 +143,7 @@ module _ (t : Table) (z : Sized t) where
     unfolding writeTable successorsRefusal
     successors-passed =
         firstOf-passed _ (t .stateCount * t .setCount)
-        (λ i l. rw (written-entry i l, lt-ltb, successor-below _ (member-getD (concat (t .successors)) i 0 (omega (arith, successors-length)))))
+        (λ i l. rw (written-entry i l, lt-ltb, successor-below _ (member-getD (flatten (t .successors)) i 0 (omega (arith, successors-length)))))
 
     -- the table check, whole
     pub written-check : tableRefusal (writeTable t) ≡ passed
@@ -155,4 +155,4 @@ module _ (t : Table) (z : Sized t) where
     unfolding writeTable
     written-bytes-below-256 =
         all-cons (omega arith) (all-cons (omega arith) (all-cons (omega arith) (all-cons (omega arith)
-        (all-append (t .starts) (λ b m. omega (arith, n .starts-below b m)) (all-append (concat (t .successors)) (λ b m. omega (arith, successor-below b m)) held-small)))))
+        (all-append (t .starts) (λ b m. omega (arith, n .starts-below b m)) (all-append (flatten (t .successors)) (λ b m. omega (arith, successor-below b m)) held-small)))))

@@ -5,15 +5,15 @@ use native.Mathlib.Omega.{arith}
 use mathlib.Core.Path.{_≡_, refl, sym, ap, subst}
 use mathlib.Core.Bool.{Bool, true}
 use mathlib.Core.Logic.{inl, inr, ⊎-elim}
-use mathlib.Core.List.{List, [], _∷_, map, List·Memᴰ, List·Memᴰ·head, List·Memᴰ·tail, List·Memᴰ·not-nil, List·Memᴰ·cases-cons, List·Memᴰ·append-cases, List·Memᴰ·eq-of-singleton, Memᴰ·append-left, Memᴰ·append-right, Memᴰ·map}
+use mathlib.Core.List.{List, [], _∷_, map, List·Memᴰ, List·Memᴰ·head, List·Memᴰ·tail, List·Memᴰ·not-nil, List·Memᴰ·cases-cons, List·Memᴰ·append-cases, List·Memᴰ·eq-of-singleton, Memᴰ·append-left, Memᴰ·append-right, Memᴰ·map, flatten}
 use lib.Dec.{eqb}
 use lib.ListN.{length}
-use Rattle.theory.specs.Tests.{pick, Says, holds, fails, concat, largest}
+use Rattle.theory.specs.Tests.{pick, Says, holds, fails, largest}
 use Rattle.theory.specs.Orders.{Order, Rule, fix, equal, Query, interesting, allRules, Same}
 use Rattle.theory.specs.Closure.{Found, first, next}
 use Rattle.theory.specs.Construction.{longest, Wanted, asked, settles, equals, equals′, wantedBy, columnsOf, named, wantedColumns, keep, isWanted, kept}
 use Rattle.theory.proofs.Reflect.{says-eqb, says-member, says-as, says-one, true-says, decides-number}
-use Rattle.theory.proofs.ListLaws.{member-concat, concat-member, member-concat-map, concat-map-member}
+use Rattle.theory.proofs.ListLaws.{member-flatten, flatten-member, member-flatten-map, flatten-map-member}
 use Rattle.theory.proofs.ClosureLaws.{closure-found, closure-complete, closure-few}
 
 -- what is in a list that stands only where a test passes: the test passes, and it is in the list
@@ -28,7 +28,7 @@ pick-self c m = rw (true-says (says-eqb c c) refl) m
 module _ (q : Query) where
   -- the columns that the rules make wanted where c is
   abbrev leads : ℕ → List ℕ
-  leads c = concat (map (wantedBy c) (allRules q))
+  leads c = flatten (map (wantedBy c) (allRules q))
 
   -- what a rule makes wanted is wanted
   by-wanted : (rule : Rule) {c d : ℕ} → List·Memᴰ rule (allRules q) → List·Memᴰ d (wantedBy c rule) → Wanted q c → Wanted q d
@@ -40,33 +40,33 @@ module _ (q : Query) where
       (List·Memᴰ·append-cases (pick (eqb c a) (b ∷ []) []) m)
 
   -- what is found from the columns of the interesting orders is wanted
-  found-wanted : {c : ℕ} → Found leads (concat (interesting q)) c → Wanted q c
-  found-wanted (first m) = let t = member-concat (interesting q) m in asked (t .1) (t .2)
-  found-wanted (next {x} f m) = let t = member-concat-map (wantedBy x) (allRules q) m in by-wanted (t .0) (t .1) (t .2) (found-wanted f)
+  found-wanted : {c : ℕ} → Found leads (flatten (interesting q)) c → Wanted q c
+  found-wanted (first m) = let t = member-flatten (interesting q) m in asked (t .1) (t .2)
+  found-wanted (next {x} f m) = let t = member-flatten-map (wantedBy x) (allRules q) m in by-wanted (t .0) (t .1) (t .2) (found-wanted f)
 
   -- and what is wanted is found
-  wanted-found : {c : ℕ} → Wanted q c → Found leads (concat (interesting q)) c
-  wanted-found (asked k m) = first (concat-member k m)
-  wanted-found (settles {r} k m w) = next (wanted-found w) (concat-map-member (wantedBy r) k (pick-self r m))
+  wanted-found : {c : ℕ} → Wanted q c → Found leads (flatten (interesting q)) c
+  wanted-found (asked k m) = first (flatten-member k m)
+  wanted-found (settles {r} k m w) = next (wanted-found w) (flatten-map-member (wantedBy r) k (pick-self r m))
   wanted-found (equals {a} {b} k w) =
-      next (wanted-found w) (concat-map-member (wantedBy b) k (Memᴰ·append-right (pick (eqb b a) (b ∷ []) []) (pick-self b (List·Memᴰ·head refl))))
+      next (wanted-found w) (flatten-map-member (wantedBy b) k (Memᴰ·append-right (pick (eqb b a) (b ∷ []) []) (pick-self b (List·Memᴰ·head refl))))
   wanted-found (equals′ {a} {b} k w) =
-      next (wanted-found w) (concat-map-member (wantedBy a) k (Memᴰ·append-left (pick (eqb a b) (a ∷ []) []) (pick-self a (List·Memᴰ·head refl))))
+      next (wanted-found w) (flatten-map-member (wantedBy a) k (Memᴰ·append-left (pick (eqb a b) (a ∷ []) []) (pick-self a (List·Memᴰ·head refl))))
 
   -- a wanted column is one that the query names
   wanted-named : {c : ℕ} → Wanted q c → List·Memᴰ c (named q)
-  wanted-named (asked k m) = Memᴰ·append-left (concat (map columnsOf (allRules q))) (concat-member k m)
-  wanted-named (settles k m w) = Memᴰ·append-right (concat (interesting q)) (concat-map-member columnsOf k (List·Memᴰ·tail m))
-  wanted-named (equals k w) = Memᴰ·append-right (concat (interesting q)) (concat-map-member columnsOf k (List·Memᴰ·head refl))
-  wanted-named (equals′ k w) = Memᴰ·append-right (concat (interesting q)) (concat-map-member columnsOf k (List·Memᴰ·tail (List·Memᴰ·head refl)))
+  wanted-named (asked k m) = Memᴰ·append-left (flatten (map columnsOf (allRules q))) (flatten-member k m)
+  wanted-named (settles k m w) = Memᴰ·append-right (flatten (interesting q)) (flatten-map-member columnsOf k (List·Memᴰ·tail m))
+  wanted-named (equals k w) = Memᴰ·append-right (flatten (interesting q)) (flatten-map-member columnsOf k (List·Memᴰ·head refl))
+  wanted-named (equals′ k w) = Memᴰ·append-right (flatten (interesting q)) (flatten-map-member columnsOf k (List·Memᴰ·tail (List·Memᴰ·head refl)))
 
   -- the computed wanted columns are exactly those of the rule
   pub says-wanted : (c : ℕ) → Says (Wanted q c) (isWanted q c)
   unfolding wantedColumns
   says-wanted c =
-      let few = closure-few decides-number leads (length (named q)) (concat (interesting q)) (named q) (le-refl (length (named q))) (λ x f. wanted-named (found-wanted f)) in
-      says-as (λ m. found-wanted (closure-found decides-number leads (length (named q)) (concat (interesting q)) c m))
-      (λ w. closure-complete decides-number leads (length (named q)) (concat (interesting q)) few c (wanted-found w))
+      let few = closure-few decides-number leads (length (named q)) (flatten (interesting q)) (named q) (le-refl (length (named q))) (λ x f. wanted-named (found-wanted f)) in
+      says-as (λ m. found-wanted (closure-found decides-number leads (length (named q)) (flatten (interesting q)) c m))
+      (λ w. closure-complete decides-number leads (length (named q)) (flatten (interesting q)) few c (wanted-found w))
       (says-member decides-number c (wantedColumns q))
 
   -- two columns of an equal are wanted together

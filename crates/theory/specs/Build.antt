@@ -1,4 +1,5 @@
--- The whole build: its outcome from the query's bytes and the two lengths, and every byte of the lent buffers afterwards.
+-- Constructing the table of a query, and the whole build around it: its outcome from the query's bytes and the two lengths, and every byte of the lent
+-- buffers afterwards.
 use Prim.Native.Nat.{ℕ, _≤_, _<_}
 use mathlib.Core.Path.{_≡_}
 use mathlib.Core.Logic.{_≢_}
@@ -7,59 +8,67 @@ use mathlib.Core.List.{_++_}
 use lib.Dec.{eqb, ltb, leb}
 use lib.ListN.{length, drop, replicate}
 use Rattle.theory.specs.Tests.{pick}
+use Rattle.theory.specs.Limits.{maxNodes, maxStates, scratchLength}
 use Rattle.theory.specs.Orders.{Query}
 use Rattle.theory.specs.Closure.{More}
-use Rattle.theory.specs.Construction.{Node, State, nodes, states, maxNodes, maxStates}
+use Rattle.theory.specs.Construction.{Node, State, nodes, states, sizesOf, construction}
 use Rattle.theory.specs.Refusals.{passed, orderings-refused, states-refused, space-refused}
 use Rattle.theory.specs.Query.{Bytes, readQuery, queryRefusal}
-use Rattle.theory.specs.Table.{tableOf, writeTable}
+use Rattle.theory.specs.Table.{Table, tableOf, writeTable}
+
+-- Constructing ends with a refusal's number, 7 or 8, or with a table and the count of nodes.
+pub data Constructed : Type 0 where
+  too-many : ℕ → Constructed
+  table : Table → ℕ → Constructed
+
+-- The table of a query.
+abbrev pub queryTable : Query → Table
+queryTable q = tableOf (construction q (nodes q)) (sizesOf q) (states q (nodes q))
+
+-- Constructing, for a query that passed checks 1 to 6: 7, then 8.
+unfoldable pub construct : Query → Constructed
+construct q =
+    let ns = nodes q in
+    elim (ltb maxNodes (length ns)) [
+      | true ↦ too-many orderings-refused
+      | false ↦
+          let sts = states q ns in
+          elim (ltb maxStates (length sts)) [ true ↦ too-many states-refused | false ↦ table (tableOf (construction q ns) (sizesOf q) sts) (length ns) ]
+    ]
+
+-- What it means: 7 exactly when there are more than 256 nodes, else 8 exactly when there are more than 128 states, else the query's table.
+pub data Constructs (q : Query) : Constructed → Type 0 where
+  many-orderings : More maxNodes (Node q) → Constructs q (too-many orderings-refused)
+  many-states : ¬ More maxNodes (Node q) → More maxStates (State q (nodes q)) → Constructs q (too-many states-refused)
+  its-table : ¬ More maxNodes (Node q) → ¬ More maxStates (State q (nodes q)) → Constructs q (table (queryTable q) (length (nodes q)))
 
 -- A build is refused with a number, or it gives a table's bytes and the count of nodes.
 pub data Outcome : Type 0 where
   refused : ℕ → Outcome
   built : Bytes → ℕ → Outcome
 
--- The least scratch that a build takes.
-abbrev pub scratchLength : ℕ
-scratchLength = 16384
-
--- The construction for a query that passed its checks 1 to 6: 7, then 8, then 9 for an output shorter than the table.
-unfoldable pub construct : Query → ℕ → Outcome
-construct q outputLength =
-    let ns = nodes q in
-    elim (ltb maxNodes (length ns)) [
-      | true ↦ refused orderings-refused
-      | false ↦
-          let sts = states q ns in
-          elim (ltb maxStates (length sts)) [
-            | true ↦ refused states-refused
-            | false ↦ let t = writeTable (tableOf q ns sts) in elim (ltb outputLength (length t)) [ true ↦ refused space-refused | false ↦ built t (length ns) ]
-          ]
-    ]
+-- What was constructed goes into the output: 9 where that is shorter than the table.
+abbrev pub delivered : Constructed → ℕ → Outcome
+delivered (too-many n) output = refused n
+delivered (table t n) output = elim (ltb output (length (writeTable t))) [ true ↦ refused space-refused | false ↦ built (writeTable t) n ]
 
 -- A build's outcome. Query order: 1 to 6, then 9 for scratch, then 7, 8 and 9 for output.
 unfoldable pub outcome : Bytes → ℕ → ℕ → Outcome
 outcome query scratch output =
     elim (eqb (queryRefusal query) passed) [
-      | true ↦ elim (ltb scratch scratchLength) [ true ↦ refused space-refused | false ↦ construct (readQuery query) output ]
+      | true ↦ elim (ltb scratch scratchLength) [ true ↦ refused space-refused | false ↦ delivered (construct (readQuery query)) output ]
       | false ↦ refused (queryRefusal query)
     ]
 
 -- What an outcome means: each refusal under exactly the condition of the list, in its order.
-abbrev pub tableBytes : Query → Bytes
-tableBytes q = writeTable (tableOf q (nodes q) (states q (nodes q)))
-
 pub data Means (query : Bytes) (scratch output : ℕ) : Outcome → Type 0 where
   query-refused : queryRefusal query ≢ passed → Means query scratch output (refused (queryRefusal query))
   scratch-short : queryRefusal query ≡ passed → scratch < scratchLength → Means query scratch output (refused space-refused)
-  many-orderings : queryRefusal query ≡ passed → scratchLength ≤ scratch → More maxNodes (Node (readQuery query)) → Means query scratch output (refused orderings-refused)
-  many-states : queryRefusal query ≡ passed → scratchLength ≤ scratch → ¬ More maxNodes (Node (readQuery query)) →
-      More maxStates (State (readQuery query) (nodes (readQuery query))) → Means query scratch output (refused states-refused)
-  output-short : queryRefusal query ≡ passed → scratchLength ≤ scratch → ¬ More maxNodes (Node (readQuery query)) →
-      ¬ More maxStates (State (readQuery query) (nodes (readQuery query))) → output < length (tableBytes (readQuery query)) → Means query scratch output (refused space-refused)
-  table-built : queryRefusal query ≡ passed → scratchLength ≤ scratch → ¬ More maxNodes (Node (readQuery query)) →
-      ¬ More maxStates (State (readQuery query) (nodes (readQuery query))) → length (tableBytes (readQuery query)) ≤ output →
-      Means query scratch output (built (tableBytes (readQuery query)) (length (nodes (readQuery query))))
+  not-constructed : {n : ℕ} → queryRefusal query ≡ passed → scratchLength ≤ scratch → Constructs (readQuery query) (too-many n) → Means query scratch output (refused n)
+  output-short : {t : Table} {n : ℕ} → queryRefusal query ≡ passed → scratchLength ≤ scratch → Constructs (readQuery query) (table t n) →
+      output < length (writeTable t) → Means query scratch output (refused space-refused)
+  table-built : {t : Table} {n : ℕ} → queryRefusal query ≡ passed → scratchLength ≤ scratch → Constructs (readQuery query) (table t n) →
+      length (writeTable t) ≤ output → Means query scratch output (built (writeTable t) n)
 
 -- The output keeps its bytes on every refusal; otherwise its first bytes are the table and the rest keep theirs.
 abbrev pub written : Outcome → Bytes → Bytes

@@ -2,12 +2,14 @@
 use Prim.Native.Nat.{ℕ, zero, suc, _-_, _<_, max}
 use mathlib.Core.Path.{_≡_}
 use mathlib.Core.Bool.{Bool, true, false, Bool·beq}
-use mathlib.Core.List.{List, [], _∷_, _++_, map, dropLast, List·Memᴰ}
+use mathlib.Core.List.{List, [], _∷_, _++_, map, dropLast, List·Memᴰ, flatten}
 use lib.Dec.{eqb}
 use lib.ListN.{length, take, drop, getD}
-use Rattle.theory.specs.Tests.{pick, member, position, sameList, concat, upFrom, largest}
+use Rattle.theory.specs.Tests.{pick, member, position, sameList, upFrom, largest}
 use Rattle.theory.specs.Orders.{Order, Orderings, sameOrder, Rule, fix, equal, Query, interesting, rulesOf, allRules, Taken, Start}
+use Rattle.theory.specs.Limits.{maxNodes, maxStates}
 use Rattle.theory.specs.Closure.{closure}
+use Rattle.theory.specs.Machine.{Sizes, Machine, Reached, numberedWithin}
 
 -- L is the length of the longest interesting order.
 abbrev pub longest : Query → ℕ
@@ -31,11 +33,11 @@ columnsOf (equal a b) = a ∷ b ∷ []
 
 -- Every column that the query names, once for each time that it is named: no more columns than that are wanted.
 abbrev pub named : Query → List ℕ
-named q = concat (interesting q) ++ concat (map columnsOf (allRules q))
+named q = flatten (interesting q) ++ flatten (map columnsOf (allRules q))
 
 -- The wanted columns.
 unfoldable pub wantedColumns : Query → List ℕ
-wantedColumns q = closure eqb (λ c. concat (map (wantedBy c) (allRules q))) (length (named q)) (concat (interesting q))
+wantedColumns q = closure eqb (λ c. flatten (map (wantedBy c) (allRules q))) (length (named q)) (flatten (interesting q))
 
 -- The *kept part* of an ordering: its longest beginning of at most n entries, all wanted.
 abbrev pub keepFirst : Bool → ℕ → Order → Order
@@ -72,7 +74,7 @@ insertsFrom k c o = map (λ n. insertAt n c o) (upFrom k (suc (length o) - k))
 
 -- b in the stead of a, at each place where that stands.
 abbrev pub replaces : ℕ → ℕ → Order → List Order
-replaces a b o = concat (map (λ k. pick (eqb (getD o k 0) a) (replaceAt k b o ∷ []) []) (upFrom zero (length o)))
+replaces a b o = flatten (map (λ k. pick (eqb (getD o k 0) a) (replaceAt k b o ∷ []) []) (upFrom zero (length o)))
 
 -- The results of an equal in the one direction: b at each place from that of a on (directly before a, and behind it), and in the stead of a.
 abbrev pub equalResults : ℕ → ℕ → Order → List Order
@@ -90,7 +92,7 @@ shorter (c ∷ o) = dropLast (c ∷ o) ∷ []
 
 -- Every result of one step from an ordering under the rules.
 unfoldable pub steps : List Rule → Order → List Order
-steps rs o = shorter o ++ concat (map (λ r. results r o) rs)
+steps rs o = shorter o ++ flatten (map (λ r. results r o) rs)
 
 -- The construction works with each result replaced by its kept part.
 unfoldable pub keptSteps : Query → List Rule → Order → List Order
@@ -106,13 +108,6 @@ pub record Node (q : Query) (o : Order) : Type 0 where
   pub produced : List·Memᴰ start (q .produced)
   pub sets : List ℕ
   pub reached : KeptAfter q start sets o
-
--- No more nodes and no more states than these.
-abbrev pub maxNodes : ℕ
-maxNodes = 256
-
-abbrev pub maxStates : ℕ
-maxStates = 128
 
 -- The nodes: all that steps under all rules together give from the produced orders.
 unfoldable pub nodes : Query → List Order
@@ -149,31 +144,28 @@ startState ns p = marks ns (prefixes p)
 unfoldable pub takeSet : Query → List Order → Marks → ℕ → Marks
 takeSet q ns ms s = marks ns (closure sameOrder (keptSteps q (rulesOf q s)) (length ns) (marked ms ns))
 
--- The sets ss are taken one after the other.
-abbrev pub takeSets : Query → List Order → Marks → List ℕ → Marks
-takeSets q ns ms [] = ms
-takeSets q ns ms (s ∷ ss) = takeSets q ns (takeSet q ns ms s) ss
-
--- A *state* is reached from a start by some sets.
-pub record State (q : Query) (ns : List Order) (ms : Marks) : Type 0 where
-  pub start : Order
-  pub produced : List·Memᴰ start (q .produced)
-  pub sets : List ℕ
-  pub below : (s : ℕ) → List·Memᴰ s sets → s < q .sets
-  pub reached : takeSets q ns (startState ns start) sets ≡ ms
-
--- The set numbers.
-abbrev pub setNumbers : Query → List ℕ
-setNumbers q = upFrom zero (q .sets)
-
--- The states by number: first the starts, in the order of the produced orders. Then each state, in number order, takes each set, in number order,
--- and each new state gets the next free number.
-unfoldable pub statesWithin : ℕ → Query → List Order → List Marks
-statesWithin cap q ns = closure sameMarks (λ ms. map (takeSet q ns ms) (setNumbers q)) cap (map (startState ns) (q .produced))
-
-abbrev pub states : Query → List Order → List Marks
-states q ns = statesWithin maxStates q ns
+-- The sizes of a query.
+abbrev pub sizesOf : Query → Sizes
+sizesOf q = record { produced = length (q .produced); tested = length (q .tested); sets = q .sets }
 
 -- An order is held in a state when it is one of its orderings.
 abbrev pub holdsIn : List Order → Marks → Order → Bool
 holdsIn ns ms o = member sameOrder o (marked ms ns)
+
+-- The construction as a machine: its states are sets of nodes.
+abbrev pub construction : Query → List Order → Machine Marks
+construction q ns =
+    record {
+      start = λ p. startState ns (getD (q .produced) p []);
+      next = takeSet q ns;
+      held = λ ms. map (λ o. holdsIn ns ms o) (interesting q);
+      same = sameMarks;
+    }
+
+-- A *state* is a set of nodes reached from a start by some sets.
+abbrev pub State : Query → List Order → Marks → Type 0
+State q ns = Reached (construction q ns) (sizesOf q)
+
+-- The states by number.
+abbrev pub states : Query → List Order → List Marks
+states q ns = numberedWithin (construction q ns) maxStates (sizesOf q)

@@ -1,12 +1,15 @@
 -- Document 01 as definitions, in its order.
 pub mod Tests
+pub mod Limits
 pub mod Orders
 pub mod Rows
 pub mod Closure
+pub mod Machine
 pub mod Construction
 pub mod Refusals
 pub mod Query
 pub mod Table
+pub mod Scratch
 pub mod Build
 pub mod Lookups
 pub mod Listing

@@ -1,17 +1,18 @@
 -- Document 01, "Lists of lookups": a list of entries, takes and asks run on a table's bytes, and the plain model, which knows the query and
 -- sees neither the table nor state numbers.
-use Prim.Native.Nat.{ℕ, _+_, _<_, _≤_}
+use Prim.Native.Nat.{ℕ, _<_, _≤_}
 use mathlib.Core.Path.{_≡_}
-use mathlib.Core.Bool.{Bool, true}
-use mathlib.Core.List.{List, [], _∷_, _++_, List·Memᴰ}
+use mathlib.Core.Bool.{Bool, true, false}
+use mathlib.Core.List.{List, [], _∷_, _++_}
 use lib.Dec.{eqb}
 use lib.ListN.{length, getD}
 use Rattle.theory.specs.Tests.{pick, Says}
 use Rattle.theory.specs.Orders.{Order, Query, interesting, After}
 use Rattle.theory.specs.Rows.{HoldsOfRows}
 use Rattle.theory.specs.Refusals.{passed, handle-refused}
+use Rattle.theory.specs.Machine.{Machine, AllBelow, runs}
 use Rattle.theory.specs.Query.{Bytes}
-use Rattle.theory.specs.Table.{Answer, refuse, grant, bit, enter, takeIn, ask, formRefusal, statesIn, producedIn, testedIn, setsIn, startIn, successorIn, heldBit}
+use Rattle.theory.specs.Table.{Answer, refuse, grant, bit, enter, takeIn, ask, formRefusal, statesIn, producedIn, testedIn, setsIn, startIn, successorIn, machineIn}
 
 -- Of each lookup its kind, and the produced order, set or interesting order given.
 pub data Lookup : Type 0 where
@@ -56,12 +57,13 @@ pub data Answers (q : Query) : Order → List ℕ → List Lookup → List Answe
       i < length (interesting q) → Says (After q p ss (getD (interesting q) i [])) held → (held ≡ true → HoldsOfRows q p ss (getD (interesting q) i [])) →
       Answers q p ss ls rs → Answers q p ss (asking i ∷ ls) (grant (bit held) ∷ rs)
 
--- The state at which a run arrives: from a state, through the sets ss in their sequence.
-abbrev pub arrive : Bytes → ℕ → List ℕ → ℕ
-arrive t state [] = state
-arrive t state (s ∷ ss) = arrive t (successorIn t state s) ss
+-- A machine tells a query's derivation: after a start and any run of sets, an interesting order is held exactly when the uncut derivation gives it.
+abbrev pub Tells : {X : Type 0} → Query → Machine X → Type 0
+Tells q m =
+    (p i : ℕ) (ss : List ℕ) → p < length (q .produced) → AllBelow (q .sets) ss → i < length (interesting q) →
+    Says (After q (getD (q .produced) p []) ss (getD (interesting q) i [])) (getD (m .held (runs m (m .start p) ss)) i false)
 
--- A table is faithful to a query when, from every produced order's start and through every list of sets, it says of each interesting order
+-- A table is faithful to a query when it has its sizes and, from every produced order's start and through every list of sets, says of each interesting order
 -- whether the uncut derivation gives it. This is all that the lookups' answers rest on.
 pub record Faithful (q : Query) (t : Bytes) : Type 0 where
   pub form : formRefusal t ≡ passed
@@ -70,5 +72,4 @@ pub record Faithful (q : Query) (t : Bytes) : Type 0 where
   pub sets-size : setsIn t ≡ q .sets
   pub start-below : (p : ℕ) → p < producedIn t → startIn t p < statesIn t
   pub successor-below : (state s : ℕ) → state < statesIn t → s < setsIn t → successorIn t state s < statesIn t
-  pub bits : (p i : ℕ) (ss : List ℕ) → p < producedIn t → ((s : ℕ) → List·Memᴰ s ss → s < setsIn t) → i < producedIn t + testedIn t →
-      (held : Bool) × Says (After q (getD (q .produced) p []) ss (getD (interesting q) i [])) held × (heldBit t (arrive t (startIn t p) ss) i ≡ bit held)
+  pub tells : Tells q (machineIn t)

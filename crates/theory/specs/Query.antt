@@ -7,7 +7,8 @@ use lib.Dec.{eqb, ltb, leb}
 use lib.ListN.{length, take, drop, getD}
 use Rattle.theory.specs.Tests.{pick, every, repeats, upFrom}
 use Rattle.theory.specs.Orders.{Order, sameOrder, Rule, fix, equal, Dependency, Query}
-use Rattle.theory.specs.Refusals.{passed, length-refused, size-refused, item-refused, column-refused, repeat-refused, twin-refused, orElse, firstOf}
+use Rattle.theory.specs.Limits.{maxColumns, maxProduced, maxTested, maxSets, maxDependencies, maxLength, equalKind, kindUnit, querySizes, bodyWidth, itemWidth, unusedByte}
+use Rattle.theory.specs.Refusals.{passed, length-refused, size-refused, item-refused, column-refused, repeat-refused, twin-refused, firstRefusal, firstOf}
 
 abbrev pub Bytes : Type 0
 Bytes = List ℕ
@@ -44,10 +45,10 @@ itemCount b = orderCount b + dependencyCount b
 
 -- Two parallel arrays behind the sizes: one head per item, then four bytes per item.
 abbrev pub headAt : Bytes → ℕ → ℕ
-headAt b i = byteAt b (5 + i)
+headAt b i = byteAt b (querySizes + i)
 
 abbrev pub bodyAt : Bytes → ℕ → Bytes
-bodyAt b i = rowAt (5 + itemCount b) 4 i b
+bodyAt b i = rowAt (querySizes + itemCount b) bodyWidth i b
 
 -- An order's head is its length, and its columns come first in its four bytes.
 abbrev pub orderAt : Bytes → ℕ → Order
@@ -55,17 +56,17 @@ orderAt b i = take (headAt b i) (bodyAt b i)
 
 -- A dependency's head is 16 × kind + set. Kind 0 to 3 is a fix with that many left columns, those and then the right one; kind 4 is an equal, two columns.
 abbrev pub kindOf : ℕ → ℕ
-kindOf head = head / 16
+kindOf head = head / kindUnit
 
 abbrev pub setOf : ℕ → ℕ
-setOf head = head % 16
+setOf head = head % kindUnit
 
 abbrev pub ruleOf : ℕ → Bytes → Rule
-ruleOf kind body = pick (eqb kind 4) (equal (byteAt body 0) (byteAt body 1)) (fix (take kind body) (byteAt body kind))
+ruleOf kind body = pick (eqb kind equalKind) (equal (byteAt body 0) (byteAt body 1)) (fix (take kind body) (byteAt body kind))
 
 -- How many of the four bytes a dependency uses.
 abbrev pub usedBy : ℕ → ℕ
-usedBy kind = pick (eqb kind 4) 2 (suc kind)
+usedBy kind = pick (eqb kind equalKind) 2 (suc kind)
 
 abbrev pub dependencyAt : Bytes → ℕ → Dependency
 dependencyAt b i = record { set = setOf (headAt b i); rule = ruleOf (kindOf (headAt b i)) (bodyAt b i) }
@@ -87,29 +88,35 @@ outside low high n = ltb n low || ltb high n
 
 unfoldable pub sizesRefusal : Bytes → ℕ
 sizesRefusal b =
-    pick (ltb (length b) 5) length-refused
-    (pick (outside 1 12 (columnCount b)) size-refused
-    (pick (outside 1 8 (producedCount b)) size-refused
-    (pick (ltb 8 (testedCount b)) size-refused
-    (pick (ltb 8 (setCount b)) size-refused
-    (pick (ltb 16 (dependencyCount b)) size-refused
-    (pick (eqb (length b) (5 + 5 * itemCount b)) passed length-refused))))))
+    pick (ltb (length b) querySizes) length-refused
+    (pick (outside 1 maxColumns (columnCount b)) size-refused
+    (pick (outside 1 maxProduced (producedCount b)) size-refused
+    (pick (ltb maxTested (testedCount b)) size-refused
+    (pick (ltb maxSets (setCount b)) size-refused
+    (pick (ltb maxDependencies (dependencyCount b)) size-refused
+    (pick (eqb (length b) (querySizes + itemWidth * itemCount b)) passed length-refused))))))
 
 -- Refusals 3, 4, 5 of an item's four bytes, of which `used` are columns: an unused byte not 255; a column not below N; a column twice.
+abbrev pub unusedRefusal : ℕ → Bytes → ℕ
+unusedRefusal used body = pick (every (λ c. eqb c unusedByte) (drop used body)) passed item-refused
+
+abbrev pub columnRefusal : ℕ → ℕ → Bytes → ℕ
+columnRefusal n used body = pick (every (λ c. ltb c n) (take used body)) passed column-refused
+
+abbrev pub repeatRefusal : ℕ → Bytes → ℕ
+repeatRefusal used body = pick (repeats eqb (take used body)) repeat-refused passed
+
 unfoldable pub bodyRefusal : ℕ → ℕ → Bytes → ℕ
-bodyRefusal n used body =
-    pick (every (λ c. eqb c 255) (drop used body))
-    (pick (every (λ c. ltb c n) (take used body)) (pick (repeats eqb (take used body)) repeat-refused passed) column-refused)
-    item-refused
+bodyRefusal n used body = firstRefusal (unusedRefusal used body) (firstRefusal (columnRefusal n used body) (repeatRefusal used body))
 
 -- An order's length is at most 4.
 unfoldable pub orderRefusal : ℕ → ℕ → Bytes → ℕ
-orderRefusal n head body = pick (ltb 4 head) item-refused (bodyRefusal n head body)
+orderRefusal n head body = pick (ltb maxLength head) item-refused (bodyRefusal n head body)
 
 -- A dependency's kind is at most 4, and its set is below S.
 unfoldable pub dependencyRefusal : ℕ → ℕ → ℕ → Bytes → ℕ
 dependencyRefusal n s head body =
-    pick (ltb 4 (kindOf head)) item-refused (pick (leb s (setOf head)) item-refused (bodyRefusal n (usedBy (kindOf head)) body))
+    pick (ltb equalKind (kindOf head)) item-refused (pick (leb s (setOf head)) item-refused (bodyRefusal n (usedBy (kindOf head)) body))
 
 unfoldable pub itemRefusal : Bytes → ℕ → ℕ
 itemRefusal b i =
@@ -122,4 +129,4 @@ twinRefusal b = pick (repeats sameOrder (map (orderAt b) (upFrom 0 (orderCount b
 
 -- The query's checks 1 to 6 in their order: 1, 2, 1, then the items one by one, then 6.
 unfoldable pub queryRefusal : Bytes → ℕ
-queryRefusal b = orElse (sizesRefusal b) (orElse (firstOf (itemRefusal b) (itemCount b)) (twinRefusal b))
+queryRefusal b = firstRefusal (sizesRefusal b) (firstRefusal (firstOf (itemRefusal b) (itemCount b)) (twinRefusal b))

@@ -40,10 +40,10 @@ abbrev pub row-refused : ℕ
 row-refused = 11
 
 -- The first of two checks that refuses, if one does.
-abbrev pub orElse : ℕ → ℕ → ℕ
-orElse a b = pick (eqb a passed) b a
+abbrev pub firstRefusal : ℕ → ℕ → ℕ
+firstRefusal a b = pick (eqb a passed) b a
 
 -- The first of n checks that refuses, if one does.
 abbrev pub firstOf : (ℕ → ℕ) → ℕ → ℕ
 firstOf check zero = passed
-firstOf check (suc n) = orElse (firstOf check n) (check n)
+firstOf check (suc n) = firstRefusal (firstOf check n) (check n)

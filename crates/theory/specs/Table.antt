@@ -2,13 +2,13 @@
 use Prim.Native.Nat.{ℕ, zero, _+_, _*_, _/_, _%_, _^_, _≤_, _<_}
 use mathlib.Core.Bool.{Bool, true, false}
 use mathlib.Core.Path.{_≡_}
-use mathlib.Core.List.{List, [], _∷_, _++_, map, List·Memᴰ}
+use mathlib.Core.List.{List, [], _∷_, _++_, map, List·Memᴰ, flatten}
 use lib.Dec.{eqb, ltb}
-use lib.ListN.{length, take, drop}
-use Rattle.theory.specs.Tests.{pick, position, concat, upFrom}
-use Rattle.theory.specs.Orders.{Order, Query, interesting}
-use Rattle.theory.specs.Construction.{Marks, sameMarks, startState, takeSet, setNumbers, holdsIn}
-use Rattle.theory.specs.Refusals.{passed, length-refused, size-refused, handle-refused, row-refused, orElse, firstOf}
+use lib.ListN.{length, take, drop, getD}
+use Rattle.theory.specs.Tests.{pick, position, upFrom}
+use Rattle.theory.specs.Limits.{maxStates, maxProduced, maxTested, maxSets, tableSizes, heldWidth}
+use Rattle.theory.specs.Machine.{Sizes, Machine}
+use Rattle.theory.specs.Refusals.{passed, length-refused, size-refused, handle-refused, row-refused, firstRefusal, firstOf}
 use Rattle.theory.specs.Query.{Bytes, byteAt, rowAt, outside}
 
 -- What a table says: its sizes, the start state of each produced order, and, per state, its successor for each set and which interesting orders are held.
@@ -24,11 +24,11 @@ pub record Table : Type 0 where
 -- The lists have the lengths that the sizes imply, and the sizes are within their limits.
 pub record Sized (t : Table) : Type 0 where
   pub some-state : 1 ≤ t .stateCount
-  pub few-states : t .stateCount ≤ 128
+  pub few-states : t .stateCount ≤ maxStates
   pub some-produced : 1 ≤ t .producedCount
-  pub few-produced : t .producedCount ≤ 8
-  pub few-tested : t .testedCount ≤ 8
-  pub few-sets : t .setCount ≤ 8
+  pub few-produced : t .producedCount ≤ maxProduced
+  pub few-tested : t .testedCount ≤ maxTested
+  pub few-sets : t .setCount ≤ maxSets
   pub starts-count : length (t .starts) ≡ t .producedCount
   pub rows-count : length (t .successors) ≡ t .stateCount
   pub row-width : (r : List ℕ) → List·Memᴰ r (t .successors) → length r ≡ t .setCount
@@ -40,18 +40,22 @@ pub record Numbered (t : Table) : Type 0 where
   pub starts-below : (n : ℕ) → List·Memᴰ n (t .starts) → n < t .stateCount
   pub successors-below : (r : List ℕ) → List·Memᴰ r (t .successors) → (n : ℕ) → List·Memᴰ n r → n < t .stateCount
 
--- The table of a query, from its nodes and its numbered states.
-unfoldable pub tableOf : Query → List Order → List Marks → Table
-tableOf q ns sts =
+-- The table of a machine whose states by number are xs.
+unfoldable pub tableOf : {X : Type 0} → Machine X → Sizes → List X → Table
+tableOf m z xs =
     record {
-      stateCount = length sts;
-      producedCount = length (q .produced);
-      testedCount = length (q .tested);
-      setCount = q .sets;
-      starts = map (λ p. position sameMarks (startState ns p) sts) (q .produced);
-      successors = map (λ ms. map (λ s. position sameMarks (takeSet q ns ms s) sts) (setNumbers q)) sts;
-      held = map (λ ms. map (λ o. holdsIn ns ms o) (interesting q)) sts;
+      stateCount = length xs;
+      producedCount = z .produced;
+      testedCount = z .tested;
+      setCount = z .sets;
+      starts = map (λ p. position (m .same) (m .start p) xs) (upFrom 0 (z .produced));
+      successors = map (λ x. map (λ s. position (m .same) (m .next x s) xs) (upFrom 0 (z .sets))) xs;
+      held = map (λ x. m .held x) xs;
     }
+
+-- A table as a machine: its states are their numbers.
+abbrev pub numbersOf : Table → Machine ℕ
+numbersOf t = record { start = λ p. getD (t .starts) p 0; next = λ state s. getD (getD (t .successors) state []) s 0; held = λ state. getD (t .held) state []; same = eqb }
 
 -- Bits as a number, the first one lowest.
 abbrev pub bit : Bool → ℕ
@@ -69,7 +73,7 @@ heldBytes bs = number (take 8 bs) ∷ number (drop 8 bs) ∷ []
 -- Sizes first, then the start states; then, per state, a row of successors; then, per state, two bytes of held bits.
 unfoldable pub writeTable : Table → Bytes
 writeTable t =
-    t .stateCount ∷ t .producedCount ∷ t .testedCount ∷ t .setCount ∷ (t .starts ++ (concat (t .successors) ++ concat (map heldBytes (t .held))))
+    t .stateCount ∷ t .producedCount ∷ t .testedCount ∷ t .setCount ∷ (t .starts ++ (flatten (t .successors) ++ flatten (map heldBytes (t .held))))
 
 -- The sizes Q, P, T, S of a table's bytes.
 abbrev pub statesIn : Bytes → ℕ
@@ -86,17 +90,17 @@ setsIn t = byteAt t 3
 
 -- Where the successors and where the held bytes begin, and the length that the sizes imply.
 abbrev pub successorsBase : Bytes → ℕ
-successorsBase t = 4 + producedIn t
+successorsBase t = tableSizes + producedIn t
 
 abbrev pub heldBase : Bytes → ℕ
 heldBase t = successorsBase t + statesIn t * setsIn t
 
 abbrev pub tableLength : Bytes → ℕ
-tableLength t = heldBase t + statesIn t * 2
+tableLength t = heldBase t + statesIn t * heldWidth
 
 -- The start state of a produced order.
 abbrev pub startIn : Bytes → ℕ → ℕ
-startIn t p = byteAt t (4 + p)
+startIn t p = byteAt t (tableSizes + p)
 
 -- A state's successor row, and its successor for a set.
 abbrev pub rowIn : Bytes → ℕ → Bytes
@@ -105,12 +109,23 @@ rowIn t state = rowAt (successorsBase t) (setsIn t) state t
 abbrev pub successorIn : Bytes → ℕ → ℕ → ℕ
 successorIn t state s = byteAt (rowIn t state) s
 
--- A state's held bytes, and the bit for interesting order i.
+-- A state's held bytes, the bits as one number, and the bit for interesting order i.
 abbrev pub heldIn : Bytes → ℕ → Bytes
-heldIn t state = rowAt (heldBase t) 2 state t
+heldIn t state = rowAt (heldBase t) heldWidth state t
+
+abbrev pub heldNumber : Bytes → ℕ → ℕ
+heldNumber t state = byteAt (heldIn t state) 0 + 256 * byteAt (heldIn t state) 1
 
 abbrev pub heldBit : Bytes → ℕ → ℕ → ℕ
 heldBit t state i = byteAt (heldIn t state) (i / 8) / 2 ^ (i % 8) % 2
+
+-- The held orders of a state.
+abbrev pub heldOrders : Bytes → ℕ → List Bool
+heldOrders t state = map (λ i. eqb (heldBit t state i) 1) (upFrom 0 (producedIn t + testedIn t))
+
+-- A table's bytes as a machine: its states are their numbers.
+abbrev pub machineIn : Bytes → Machine ℕ
+machineIn t = record { start = startIn t; next = successorIn t; held = heldOrders t; same = eqb }
 
 -- A table's bytes read back.
 unfoldable pub readTable : Bytes → Table
@@ -122,17 +137,17 @@ readTable t =
       setCount = setsIn t;
       starts = map (startIn t) (upFrom 0 (producedIn t));
       successors = map (rowIn t) (upFrom 0 (statesIn t));
-      held = map (λ state. map (λ i. eqb (heldBit t state i) 1) (upFrom 0 (producedIn t + testedIn t))) (upFrom 0 (statesIn t));
+      held = map (heldOrders t) (upFrom 0 (statesIn t));
     }
 
 -- Refusals 1, 2, 1: fewer than four bytes; a size outside its limits; a total other than the sizes imply.
 unfoldable pub formRefusal : Bytes → ℕ
 formRefusal t =
-    pick (ltb (length t) 4) length-refused
-    (pick (outside 1 128 (statesIn t)) size-refused
-    (pick (outside 1 8 (producedIn t)) size-refused
-    (pick (ltb 8 (testedIn t)) size-refused
-    (pick (ltb 8 (setsIn t)) size-refused (pick (eqb (length t) (tableLength t)) passed length-refused)))))
+    pick (ltb (length t) tableSizes) length-refused
+    (pick (outside 1 maxStates (statesIn t)) size-refused
+    (pick (outside 1 maxProduced (producedIn t)) size-refused
+    (pick (ltb maxTested (testedIn t)) size-refused
+    (pick (ltb maxSets (setsIn t)) size-refused (pick (eqb (length t) (tableLength t)) passed length-refused)))))
 
 -- Refusal 11 for one state number, and for one state's held bytes: not below Q; a held bit past P + T set.
 abbrev pub stateRefusal : Bytes → ℕ → ℕ
@@ -146,12 +161,12 @@ successorsRefusal t = firstOf (λ i. stateRefusal t (byteAt t (successorsBase t 
 
 unfoldable pub heldRefusal : Bytes → ℕ → ℕ
 heldRefusal t state =
-    pick (ltb (byteAt (heldIn t state) 0 + 256 * byteAt (heldIn t state) 1) (2 ^ (producedIn t + testedIn t))) passed row-refused
+    pick (ltb (heldNumber t state) (2 ^ (producedIn t + testedIn t))) passed row-refused
 
 -- The table check: 1, 2, 1, 11.
 unfoldable pub tableRefusal : Bytes → ℕ
 tableRefusal t =
-    orElse (formRefusal t) (orElse (startsRefusal t) (orElse (successorsRefusal t) (firstOf (heldRefusal t) (statesIn t))))
+    firstRefusal (formRefusal t) (firstRefusal (startsRefusal t) (firstRefusal (successorsRefusal t) (firstOf (heldRefusal t) (statesIn t))))
 
 -- What a lookup answers: its refusal, and a state number or a held bit, which is 0 on refusal.
 pub record Answer : Type 0 where
@@ -188,7 +203,7 @@ ask t state i =
 
 -- Hand back a state's successor row, as it is in the table: 1, 2, 1, then 10, never 11. The row is empty on refusal.
 unfoldable pub rowRefusal : Bytes → ℕ → ℕ
-rowRefusal t state = orElse (formRefusal t) (pick (ltb state (statesIn t)) passed handle-refused)
+rowRefusal t state = firstRefusal (formRefusal t) (pick (ltb state (statesIn t)) passed handle-refused)
 
 unfoldable pub row : Bytes → ℕ → Bytes
 row t state = pick (eqb (rowRefusal t state) passed) (rowIn t state) []

@@ -51,11 +51,6 @@ module _ {A : Type 0} where
   sameList same (x ∷ xs) [] = false
   sameList same (x ∷ xs) (y ∷ ys) = elim (same x y) [ true ↦ sameList same xs ys | false ↦ false ]
 
--- the lists one after the other
-abbrev pub concat : {A : Type 0} → List (List A) → List A
-concat [] = []
-concat (l ∷ ls) = l ++ concat ls
-
 -- n numbers from k on
 abbrev pub upFrom : ℕ → ℕ → List ℕ
 upFrom k zero = []

@@ -6,17 +6,17 @@ use native.Mathlib.Omega.{arith}
 use mathlib.Core.Path.{_≡_, refl, sym, _∙_, ap}
 use mathlib.Core.Bool.{true, true≢false}
 use mathlib.Core.Logic.{⊎-elim}
-use mathlib.Core.List.{List, [], _∷_, _++_, map, append-nil, append-assoc, List·Memᴰ, List·Memᴰ·head, Memᴰ·append-left, Memᴰ·append-right}
+use mathlib.Core.List.{List, [], _∷_, _++_, map, append-nil, append-assoc, List·Memᴰ, List·Memᴰ·head, Memᴰ·append-left, Memᴰ·append-right, flatten}
 use lib.Dec.{eqb}
 use lib.ListN.{length, take, drop, getD, length-map, drop-of-length-le, List·getD-map}
 use lib.Seq.{take-suc, drop-cons}
 use borrow.Author.Tests.{eqb-true, eq-eqb}
-use Rattle.theory.specs.Tests.{pick, concat, largest}
+use Rattle.theory.specs.Tests.{pick, largest}
 use Rattle.theory.specs.Orders.{Dependency, fix, equal, interesting, allRules}
 use Rattle.theory.specs.Construction.{Wanted, asked, settles, equals, equals′, columnsOf, isWanted, longest}
 use Rattle.theory.specs.Query.{Bytes, orderCount, dependencyCount, orderAt, dependencyAt, readQuery}
 use Rattle.theory.proofs.Reflect.{says-one, says-by}
-use Rattle.theory.proofs.ListLaws.{member-getD, member-concat, concat-member}
+use Rattle.theory.proofs.ListLaws.{member-getD, member-flatten, flatten-member}
 use Rattle.theory.proofs.WantedLaws.{says-wanted}
 use Rattle.orders.specs.Orders.{inMask}
 use Rattle.query.specs.Passed.{Passed}
@@ -25,31 +25,31 @@ use Rattle.wanted.specs.Columns.{Sound, Narrow, With, Widened, Used}
 use Rattle.wanted.proofs.MaskLaws.{with-more}
 use Rattle.wanted.proofs.RuleLaws.{used-more}
 
-concat-suc : (ls : List (List ℕ)) (i : ℕ) → i < length ls → concat (take (suc i) ls) ≡ concat (take i ls) ++ getD ls i []
-concat-suc [] i h = absurd (not-suc-le-zero h)
-concat-suc (l ∷ ls) zero h = append-nil l
-concat-suc (l ∷ ls) (suc i) h =
-    ap (λ k. l ++ k) (concat-suc ls i (le-of-suc-le-suc h)) ∙ sym (append-assoc l (concat (take i ls)) (getD ls i []))
+flatten-suc : (ls : List (List ℕ)) (i : ℕ) → i < length ls → flatten (take (suc i) ls) ≡ flatten (take i ls) ++ getD ls i []
+flatten-suc [] i h = absurd (not-suc-le-zero h)
+flatten-suc (l ∷ ls) zero h = append-nil l
+flatten-suc (l ∷ ls) (suc i) h =
+    ap (λ k. l ++ k) (flatten-suc ls i (le-of-suc-le-suc h)) ∙ sym (append-assoc l (flatten (take i ls)) (getD ls i []))
 
 -- the columns of the next interesting order
 pub asked-next : (b : Bytes) (i : ℕ) {m r s : ℕ} → i < orderCount b
-    → With (concat (take i (interesting (readQuery b)))) m r → With (orderAt b i) r s → With (concat (take (i + 1) (interesting (readQuery b)))) m s
+    → With (flatten (take i (interesting (readQuery b)))) m r → With (orderAt b i) r s → With (flatten (take (i + 1) (interesting (readQuery b)))) m s
 asked-next b i h v w =
-    rw (add-one, concat-suc (interesting (readQuery b)) i (omega (arith, interesting-count b)), interesting-at b i [] h) (with-more v w)
+    rw (add-one, flatten-suc (interesting (readQuery b)) i (omega (arith, interesting-count b)), interesting-at b i [] h) (with-more v w)
 
 -- the mask has the columns of the interesting orders, and only wanted ones
 pub record Growing (b : Bytes) (m : ℕ) : Type 0 where
   pub sound : Sound b m
-  pub asks : (c : ℕ) → List·Memᴰ c (concat (interesting (readQuery b))) → inMask m c ≡ true
+  pub asks : (c : ℕ) → List·Memᴰ c (flatten (interesting (readQuery b))) → inMask m c ≡ true
 
 module _ (b : Bytes) where
-  pub growing-start : Passed b → {m : ℕ} → With (concat (interesting (readQuery b))) 0 m → Growing b m
+  pub growing-start : Passed b → {m : ℕ} → With (flatten (interesting (readQuery b))) 0 m → Growing b m
   growing-start p w =
       record {
         sound = λ c h. ⊎-elim (λ e. let z : ⊥ = omega (arith, zero-div (2 ^ c), eqb-true (0 / 2 ^ c % 2) 1 e) in absurd z)
-            (λ k. let t = member-concat (interesting (readQuery b)) (k .0) in asked (t .1) (t .2)) (w .only c h);
+            (λ k. let t = member-flatten (interesting (readQuery b)) (k .0) in asked (t .1) (t .2)) (w .only c h);
         asks = λ c k.
-            let t = member-concat (interesting (readQuery b)) k in
+            let t = member-flatten (interesting (readQuery b)) k in
             w .adds c k (omega (arith, order-columns b p (t .0) (t .1) .1 .below c (t .2), p .sized .few-columns));
       }
 
@@ -59,7 +59,7 @@ module _ (b : Bytes) where
   -- where all rules add nothing, the mask has exactly the wanted columns
   module _ (m : ℕ) (g : Growing b m) (u : Used b (allRules (readQuery b)) m m) where
     has-wanted : {c : ℕ} → Wanted (readQuery b) c → inMask m c ≡ true
-    has-wanted (asked k j) = g .asks _ (concat-member k j)
+    has-wanted (asked k j) = g .asks _ (flatten-member k j)
     has-wanted (settles {c} {r} {l} k j w) = u .closed refl (fix l r) k r c (has-wanted w) (rw (eq-eqb r r refl) j)
     has-wanted (equals {a = x} {b = y} k w) =
         u .closed refl (equal x y) k y x (has-wanted w) (Memᴰ·append-right (pick (eqb y x) (y ∷ []) []) (rw (eq-eqb y y refl) (List·Memᴰ·head refl)))

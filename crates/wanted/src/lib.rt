@@ -2,9 +2,8 @@
 use orders::Order;
 use orders::Rule;
 ghost use mathlib.Core.Path.{_≡_};
-ghost use mathlib.Core.List.{[], _∷_};
+ghost use mathlib.Core.List.{[], _∷_, flatten};
 ghost use Prim.Native.Nat.{ℕ, _+_, _<_, _≤_, max};
-ghost use Rattle.theory.specs.Tests.{concat};
 ghost use Rattle.theory.specs.Orders.{interesting, allRules};
 ghost use Rattle.theory.specs.Construction.{columnsOf, isWanted, longest};
 ghost use Rattle.theory.specs.Refusals.{passed};
@@ -51,7 +50,7 @@ fn order_count(query: &[u8]) -> u8
 // The columns of the interesting orders.
 fn asked(query: &[u8]) -> u16
     requires { ⌜ queryRefusal (now query) ≡ passed ⌝ }
-    ensures { λ r. ⌜ With (concat (interesting (readQuery (now (query .entry))))) 0 r ⌝ }
+    ensures { λ r. ⌜ With (flatten (interesting (readQuery (now (query .entry))))) 0 r ⌝ }
 {
     let n = order_count(query);
     let mut mask: u16 = 0;

@@ -6,7 +6,7 @@ use lib.ListN.{take}
 use borrow.Author.Needs.{needs}
 use Rattle.nodes.specs.Nodes.{Added}
 use Rattle.nodes.proofs.AddedLaws.{added-none, added-more, added-stop}
-use Rattle.derivation.proofs.TurnLaws.{take-more, take-begun}
+use Rattle.theory.proofs.RangeLaws.{take-more, take-begun}
 use Rattle.nodes.proofs.add_all.Statement.{statement}
 use Rattle.nodes.proofs.add_all.Tie as tie
 

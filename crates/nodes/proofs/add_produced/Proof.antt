@@ -9,7 +9,7 @@ use Rattle.theory.specs.Query.{producedCount, orderAt}
 use Rattle.derivation.specs.Keys.{keyOf}
 use Rattle.nodes.specs.Nodes.{Added}
 use Rattle.nodes.proofs.AddedLaws.{added-none, added-more, added-stop}
-use Rattle.derivation.proofs.TurnLaws.{map-more, map-begun}
+use Rattle.theory.proofs.RangeLaws.{map-more, map-begun}
 use Rattle.derivation.proofs.ReadKeys.{produced-read}
 use Rattle.nodes.proofs.add_produced.Statement.{statement}
 use Rattle.nodes.proofs.add_produced.Tie as tie

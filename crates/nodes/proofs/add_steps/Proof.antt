@@ -2,11 +2,11 @@
 use Prim.Native.Nat.{_≤_, _+_, _-_}
 use native.Mathlib.Omega.{arith}
 use mathlib.Core.Path.{_≡_, ap}
-use mathlib.Core.List.{map}
+use mathlib.Core.List.{map, flatten}
 use lib.ListN.{take}
 use borrow.Author.Needs.{needs}
 use Rattle.theory.specs.Orders.{Dependency}
-use Rattle.theory.specs.Tests.{concat, upFrom}
+use Rattle.theory.specs.Tests.{upFrom}
 use Rattle.theory.specs.Query.{orderCount, dependencyCount}
 use Rattle.orders.specs.Orders.{orderOf}
 use Rattle.derivation.specs.Keys.{keptKeys}
@@ -17,7 +17,7 @@ use Rattle.nodes.proofs.add_steps.Statement.{statement}
 use Rattle.nodes.proofs.add_steps.Tie as tie
 
 abbrev Inv-loop : tie.InvT-loop
-Inv-loop query nodes₀ n o wanted longest rules count₀ i₀ nodes count i = (i ≤ rules) × (count ≤ 256) × Added (take n nodes₀) (keptKeys wanted longest (concat (map (resultsAt query (orderOf o)) (upFrom (orderCount query) i)))) nodes count
+Inv-loop query nodes₀ n o wanted longest rules count₀ i₀ nodes count i = (i ≤ rules) × (count ≤ 256) × Added (take n nodes₀) (keptKeys wanted longest (flatten (map (resultsAt query (orderOf o)) (upFrom (orderCount query) i)))) nodes count
 
 abbrev μ-loop : tie.MeasureT-loop
 μ-loop query nodes₀ n o wanted longest rules count₀ i₀ nodes count i = rules - i
@@ -36,7 +36,7 @@ add-results-requires c κs = search needs
 
 -- the results of one rule more were added
 one : (c : tie.After-slice-known2 Inv-loop μ-loop) → let a = c .before .before .before .before .before .before .before .before .before .before .args in
-    Added (take (a .n) (a .nodes .now)) (keptKeys (a .wanted) (a .longest) (concat (map (resultsAt (a .query .now) (orderOf (a .o))) (upFrom (orderCount (a .query .now)) (c .before .before .before .before .before .before .loop .i + 1)))))
+    Added (take (a .n) (a .nodes .now)) (keptKeys (a .wanted) (a .longest) (flatten (map (resultsAt (a .query .now) (orderOf (a .o))) (upFrom (orderCount (a .query .now)) (c .before .before .before .before .before .before .loop .i + 1)))))
     (c .before .before .add-results .last .0) (c .before .before .add-results .result)
 one c = let a = c .before .before .before .before .before .before .before .before .before .before .args in let b = a .query .now in let at = c .before .before .before .before .before .before .loop in
     added-more (kept-more (a .wanted) (a .longest) (resultsAt b (orderOf (a .o))) (orderCount b) (at .i)) (at .inv .2) (at .inv .1)

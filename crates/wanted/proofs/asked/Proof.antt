@@ -1,11 +1,11 @@
 -- `wanted::asked` meets its contract. The loop's invariant: the columns of the first i orders were added.
+use mathlib.Core.List.{flatten}
 use Prim.Native.Nat.{_-_}
 use native.Mathlib.Omega.{arith}
 use lib.ListN.{take}
 use lib.Seq.{take-all}
 use denote.Ref.{now}
 use borrow.Author.Needs.{needs}
-use Rattle.theory.specs.Tests.{concat}
 use Rattle.theory.specs.Orders.{interesting}
 use Rattle.theory.specs.Query.{readQuery}
 use Rattle.query.proofs.ReadLaws.{interesting-count}
@@ -16,7 +16,7 @@ use Rattle.wanted.proofs.asked.Statement.{statement}
 use Rattle.wanted.proofs.asked.Tie as tie
 
 abbrev Inv-loop : tie.InvT-loop
-Inv-loop query n mask₀ i₀ mask i = With (concat (take i (interesting (readQuery query)))) 0 mask
+Inv-loop query n mask₀ i₀ mask i = With (flatten (take i (interesting (readQuery query)))) 0 mask
 
 abbrev μ-loop : tie.MeasureT-loop
 μ-loop query n mask₀ i₀ mask i = n - i

@@ -1,7 +1,7 @@
 -- `closure::close::mark_all` meets its contract. The invariant: the first i keys are marked.
 use native.Mathlib.Omega.{arith}
 use mathlib.Core.Path.{_≡_}
-use Rattle.derivation.proofs.TurnLaws.{take-more}
+use Rattle.theory.proofs.RangeLaws.{take-more}
 use Rattle.closure.proofs.TraceLaws.{room-none, room-more}
 use Prim.Native.Nat.{_≤_, _-_}
 use borrow.Author.Needs.{needs}

@@ -6,8 +6,7 @@ use Rattle.closure.proofs.TraceLaws.{room-none, room-more}
 use Prim.Native.Nat.{_≤_, _-_}
 use borrow.Author.Needs.{needs}
 use lib.ListN.{take}
-use mathlib.Core.List.{map}
-use Rattle.theory.specs.Tests.{concat}
+use mathlib.Core.List.{map, flatten}
 use Rattle.theory.specs.Construction.{results}
 use Rattle.orders.specs.Orders.{orderOf}
 use Rattle.derivation.specs.Keys.{keptKeys}
@@ -16,7 +15,7 @@ use Rattle.closure.proofs.close.mark_steps.Statement.{statement}
 use Rattle.closure.proofs.close.mark_steps.Tie as tie
 
 abbrev Inv-loop : tie.InvT-loop
-Inv-loop query own m nodes n marks₀ o wanted longest count₀ j₀ marks count j = (j ≤ m) × Marking (take n nodes) (keptKeys wanted longest (concat (map (λ rule. results rule (orderOf o)) (rulesAt query (take j own))))) marks₀ marks count
+Inv-loop query own m nodes n marks₀ o wanted longest count₀ j₀ marks count j = (j ≤ m) × Marking (take n nodes) (keptKeys wanted longest (flatten (map (λ rule. results rule (orderOf o)) (rulesAt query (take j own))))) marks₀ marks count
 
 abbrev μ-loop : tie.MeasureT-loop
 μ-loop query own m nodes n marks₀ o wanted longest count₀ j₀ marks count j = m - j

@@ -3,18 +3,18 @@ use Prim.Native.Nat.{_≤_, _-_}
 use native.Mathlib.Nat.{zero-add}
 use native.Mathlib.Omega.{arith}
 use mathlib.Core.Path.{_≡_, refl, _∙_, ap, sym}
-use mathlib.Core.List.{_++_, map}
+use mathlib.Core.List.{_++_, map, flatten}
 use lib.ListN.{length, take}
-use Rattle.theory.specs.Tests.{concat, upFrom}
+use Rattle.theory.specs.Tests.{upFrom}
 use Rattle.theory.specs.Query.{dependencyCount}
-use Rattle.derivation.proofs.TurnLaws.{concat-more}
+use Rattle.theory.proofs.RangeLaws.{flatten-more}
 use Rattle.closure.specs.Close.{ownAt}
 use borrow.Author.Needs.{needs}
 use Rattle.closure.proofs.own.list.Statement.{statement}
 use Rattle.closure.proofs.own.list.Tie as tie
 
 abbrev Inv-loop : tie.InvT-loop
-Inv-loop query own₀ set rules m₀ i₀ own m i = (length own ≡ length own₀) × (i ≤ rules) × (m ≤ i) × (take m own ≡ concat (map (ownAt query set) (upFrom 0 i)))
+Inv-loop query own₀ set rules m₀ i₀ own m i = (length own ≡ length own₀) × (i ≤ rules) × (m ≤ i) × (take m own ≡ flatten (map (ownAt query set) (upFrom 0 i)))
 
 abbrev μ-loop : tie.MeasureT-loop
 μ-loop query own₀ set rules m₀ i₀ own m i = rules - i
@@ -39,7 +39,7 @@ loop-again c = let at = c .before .before .before .before .before .loop in let a
   e .0 ∙ at .inv .0,
   omega arith,
   omega (arith, e .1),
-  e .2 ∙ ap (λ l. l ++ ownAt (a .query .now) (a .set) (at .i)) (at .inv .3) ∙ sym (concat-more (ownAt (a .query .now) (a .set)) 0 (at .i) (at .i) (sym (zero-add (at .i)))),
+  e .2 ∙ ap (λ l. l ++ ownAt (a .query .now) (a .set) (at .i)) (at .inv .3) ∙ sym (flatten-more (ownAt (a .query .now) (a .set)) 0 (at .i) (at .i) (sym (zero-add (at .i)))),
 )
 
 same-length : tie.Need-same-length Inv-loop μ-loop

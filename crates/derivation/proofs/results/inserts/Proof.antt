@@ -9,7 +9,7 @@ use Rattle.theory.specs.Tests.{upFrom}
 use Rattle.theory.specs.Construction.{insertAt}
 use Rattle.orders.specs.Orders.{orderOf}
 use Rattle.derivation.specs.Results.{Written}
-use Rattle.derivation.proofs.TurnLaws.{map-more}
+use Rattle.theory.proofs.RangeLaws.{map-more}
 use Rattle.derivation.proofs.WrittenLaws.{written-none, written-more, written-as, written-cut}
 use Rattle.derivation.proofs.results.inserts.Statement.{statement}
 use Rattle.derivation.proofs.results.inserts.Tie as tie

@@ -2,12 +2,11 @@
 use Prim.Native.Nat.{_*_, _-_, _≤_}
 use native.Mathlib.Omega.{arith}
 use mathlib.Core.Path.{_≡_, refl, ap}
-use mathlib.Core.List.{map}
+use mathlib.Core.List.{map, flatten}
 use denote.Ref.{now}
 use lib.Seq.{take-all}
 use lib.ListN.{length, take}
 use borrow.Author.Needs.{needs}
-use Rattle.theory.specs.Tests.{concat}
 use Rattle.theory.specs.Listing.{spaced}
 use Rattle.listing.specs.Text.{Wrote}
 use Rattle.listing.proofs.TextLaws.{wrote-none, wrote-as, wrote-turn}
@@ -16,7 +15,7 @@ use Rattle.listing.proofs.lines.row_numbers.Statement.{statement}
 use Rattle.listing.proofs.lines.row_numbers.Tie as tie
 
 abbrev Inv-loop : tie.InvT-loop
-Inv-loop row text₀ at end₀ i₀ text end i = (i ≤ length row) × (length text ≡ length text₀) × Wrote text₀ at (concat (map spaced (take i row))) (i * 4) text end
+Inv-loop row text₀ at end₀ i₀ text end i = (i ≤ length row) × (length text ≡ length text₀) × Wrote text₀ at (flatten (map spaced (take i row))) (i * 4) text end
 
 abbrev μ-loop : tie.MeasureT-loop
 μ-loop row text₀ at end₀ i₀ text end i = length row - i
@@ -49,7 +48,7 @@ returns : tie.Need-returns Inv-loop μ-loop
 returns c =
     let l = c .before .loop in
     let row = now (c .before .before .before .before .args .row) in
-    wrote-as (ap (λ r. concat (map spaced r)) (take-all (l .i) row (omega arith))) (omega arith) (l .inv .2)
+    wrote-as (ap (λ r. flatten (map spaced r)) (take-all (l .i) row (omega arith))) (omega arith) (l .inv .2)
 
 pub row-numbers-spec : {M : Type 1} → statement M
 row-numbers-spec =

@@ -1,0 +1,40 @@
+// The limits of the sizes, and the widths of both layouts.
+pub const MAX_COLUMNS: u8 = 12;
+
+pub const MAX_PRODUCED: u8 = 8;
+
+pub const MAX_TESTED: u8 = 8;
+
+pub const MAX_SETS: u8 = 8;
+
+pub const MAX_DEPENDENCIES: u8 = 16;
+
+pub const MAX_STATES: usize = 128;
+
+pub const MAX_NODES: usize = 256;
+
+// An order has at most so many columns.
+pub const MAX_LENGTH: u8 = 4;
+
+// A query: its sizes; an item's four bytes, five with its head; a dependency's head is so many times its kind plus its set; the kind of an equal; an unused byte.
+pub const QUERY_SIZES: usize = 5;
+
+pub const BODY_WIDTH: usize = 4;
+
+pub const ITEM_WIDTH: usize = 5;
+
+pub const KIND_UNIT: u8 = 16;
+
+pub const EQUAL_KIND: u8 = 4;
+
+pub const UNUSED_BYTE: u8 = 255;
+
+// A table: its sizes; the held bytes of a state; the longest one.
+pub const TABLE_SIZES: usize = 4;
+
+pub const HELD_WIDTH: usize = 2;
+
+pub const LONGEST_TABLE: usize = 1292;
+
+// The least scratch that a build takes.
+pub const SCRATCH_LENGTH: usize = 16384;

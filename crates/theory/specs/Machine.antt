@@ -1,0 +1,44 @@
+-- Starts, successors and held orders of any kind of state, and how states are numbered. The construction of document 01 is one such machine, and a table's
+-- bytes say another.
+use Prim.Native.Nat.{ℕ, zero, _<_}
+use mathlib.Core.Path.{_≡_}
+use mathlib.Core.Bool.{Bool}
+use mathlib.Core.List.{List, [], _∷_, map, List·Memᴰ}
+use Rattle.theory.specs.Tests.{upFrom}
+use Rattle.theory.specs.Closure.{closure}
+
+-- How many produced orders, tested orders and sets there are.
+pub record Sizes : Type 0 where
+  pub produced : ℕ
+  pub tested : ℕ
+  pub sets : ℕ
+
+-- The start of each produced order, by number; the state after taking a set; which interesting orders are held; and a test of equality.
+pub record Machine (X : Type 0) : Type 0 where
+  pub start : ℕ → X
+  pub next : X → ℕ → X
+  pub held : X → List Bool
+  pub same : X → X → Bool
+
+-- Each of the sets is below the bound.
+abbrev pub AllBelow : ℕ → List ℕ → Type 0
+AllBelow n ss = (s : ℕ) → List·Memᴰ s ss → s < n
+
+module _ {X : Type 0} (m : Machine X) where
+  -- The state at which a run arrives: from a state, through the sets in their sequence.
+  abbrev pub runs : X → List ℕ → X
+  runs x [] = x
+  runs x (s ∷ ss) = runs (m .next x s) ss
+
+  -- A state is reached from the start of a produced order by some sets.
+  pub record Reached (z : Sizes) (x : X) : Type 0 where
+    pub order : ℕ
+    pub produced : order < z .produced
+    pub sets : List ℕ
+    pub below : AllBelow (z .sets) sets
+    pub arrives : runs (m .start order) sets ≡ x
+
+  -- The states by number: first the starts, in the order of the produced orders. Then each state, in number order, takes each set, in number order,
+  -- and each new state gets the next free number. Where the list is longer than `cap`, there are more states than that.
+  unfoldable pub numberedWithin : ℕ → Sizes → List X
+  numberedWithin cap z = closure (m .same) (λ x. map (m .next x) (upFrom zero (z .sets))) cap (map (m .start) (upFrom zero (z .produced)))
