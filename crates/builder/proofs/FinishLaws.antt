@@ -4,7 +4,8 @@ use mathlib.Core.Path.{_≡_, refl, sym, _∙_, subst}
 use mathlib.Core.List.{List, _++_}
 use lib.ListN.{length, drop}
 use borrow.Author.Tests.{lt-ltb, le-ltb}
-use Rattle.theory.specs.Construction.{nodes, maxNodes, maxStates}
+use Rattle.theory.specs.Limits.{maxNodes, maxStates}
+use Rattle.theory.specs.Construction.{nodes}
 use Rattle.theory.specs.Refusals.{passed, orderings-refused, states-refused, space-refused}
 use Rattle.theory.specs.Query.{Bytes, producedCount, setCount, readQuery}
 use Rattle.theory.specs.Build.{Outcome, refused, built, construct, tableBytes}

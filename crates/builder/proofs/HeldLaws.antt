@@ -9,9 +9,10 @@ use mathlib.Core.List.{List, [], _∷_, map, List·Memᴰ, List·Memᴰ·head, L
 use lib.Dec.{eqb}
 use lib.ListN.{length, take, drop, getD, length-map, length-drop, drop-of-length-le, List·getD-eq-default}
 use lib.Seq.{drop-cons}
+use Rattle.theory.specs.Limits.{maxNodes}
 use Rattle.theory.specs.Tests.{Says, holds, fails, Distinct, also, pick, member, position, upFrom}
 use Rattle.theory.specs.Orders.{Order, sameOrder, allRules, interesting}
-use Rattle.theory.specs.Construction.{Marks, marked, nodes, maxNodes, steps, kept, keptSteps, holdsIn}
+use Rattle.theory.specs.Construction.{Marks, marked, nodes, steps, kept, keptSteps, holdsIn}
 use Rattle.theory.specs.Query.{Bytes, orderCount, orderAt, readQuery}
 use Rattle.theory.specs.Table.{bit, number}
 use Rattle.theory.proofs.Reflect.{says-one, says-as, says-ltb, decides-number, decides-order}

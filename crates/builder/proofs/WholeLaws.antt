@@ -4,9 +4,10 @@ use mathlib.Core.Path.{_≡_, refl, sym, _∙_, subst}
 use mathlib.Core.Logic.{_≢_}
 use lib.ListN.{length}
 use borrow.Author.Tests.{lt-ltb, le-ltb, le-leb, lt-leb, eq-eqb, ne-eqb}
+use Rattle.theory.specs.Limits.{scratchLength}
 use Rattle.theory.specs.Refusals.{passed, space-refused}
 use Rattle.theory.specs.Query.{Bytes, readQuery, queryRefusal}
-use Rattle.theory.specs.Build.{Outcome, refused, scratchLength, construct, outcome, outputAfter, scratchAfter, zeroed}
+use Rattle.theory.specs.Build.{Outcome, refused, construct, outcome, outputAfter, scratchAfter, zeroed}
 use Rattle.builder.specs.declared.construct.Built.{Built}
 use Rattle.builder.specs.Built.{answerOf, Done}
 use Rattle.builder.proofs.FinishLaws.{done-refused}

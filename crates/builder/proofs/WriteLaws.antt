@@ -6,9 +6,10 @@ use mathlib.Core.Path.{_≡_, sym, _∙_, ap, ap₂}
 use mathlib.Core.Bool.{Bool}
 use mathlib.Core.List.{List, [], _∷_, _++_, map, append-assoc, List·Memᴰ, Memᴰ·of-map, flatten}
 use lib.ListN.{length, take, drop, getD, length-map, length-take}
+use Rattle.theory.specs.Limits.{maxStates}
 use Rattle.theory.specs.Tests.{upFrom}
 use Rattle.theory.specs.Orders.{Query}
-use Rattle.theory.specs.Construction.{Marks, nodes, startState, takeSet, setNumbers, statesWithin, states, maxStates}
+use Rattle.theory.specs.Construction.{Marks, nodes, startState, takeSet, setNumbers, statesWithin, states}
 use Rattle.theory.specs.Query.{Bytes, rowAt, readQuery}
 use Rattle.theory.specs.Table.{Table, number, heldBytes, writeTable}
 use Rattle.theory.proofs.Reflect.{decides-marks}

@@ -4,8 +4,9 @@ use mathlib.Core.Path.{_≡_}
 use mathlib.Core.Bool.{true, false}
 use lib.Dec.{ltb}
 use lib.ListN.{length}
+use Rattle.theory.specs.Limits.{maxStates}
 use Rattle.theory.specs.Orders.{Query}
-use Rattle.theory.specs.Construction.{nodes, states, maxStates}
+use Rattle.theory.specs.Construction.{nodes, states}
 use Rattle.theory.specs.Refusals.{passed, states-refused, space-refused}
 use Rattle.theory.specs.Query.{Bytes}
 use Rattle.theory.specs.Build.{Outcome, refused, built, written, tableBytes}

@@ -16,6 +16,7 @@ use Rattle.closure.specs.Close.{ownAt, ownOf, rulesAt}
 
 -- the rules of the set's dependencies are the set's
 rules-in : (b : Bytes) (s k n : ℕ) → rulesAt b (flatten (map (ownAt b s) (upFrom k n))) ≡ rulesIn s (map (dependencyAt b) (upFrom (orderCount b + k) n))
+unfolding flatten
 rules-in b s k zero = refl
 rules-in b s k (suc n) = go (eqb (dependencyAt b (orderCount b + k) .set) s) (rules-in b s (suc k) n ∙ ap (λ j. rulesIn s (map (dependencyAt b) (upFrom j n))) (add-suc (orderCount b) k))
   where
@@ -31,6 +32,7 @@ own-rules b s e = ap (rulesAt b) e ∙ rules-in b s 0 (dependencyCount b) ∙ ap
 -- the results of one dependency more
 rules-more : (b : Bytes) (o : Order) (own : List ℕ) (i : ℕ) →
     flatten (map (λ r. results r o) (rulesAt b (own ++ (i ∷ [])))) ≡ flatten (map (λ r. results r o) (rulesAt b own)) ++ results (dependencyAt b (orderCount b + i) .rule) o
+unfolding flatten
 rules-more b o [] i = append-nil (results (dependencyAt b (orderCount b + i) .rule) o)
 rules-more b o (k ∷ own) i =
     let here = results (dependencyAt b (orderCount b + k) .rule) o in

@@ -3,11 +3,14 @@ use Prim.Native.Nat.{ℕ, _*_, _≤_, _<_}
 use mathlib.Core.Path.{_≡_}
 use mathlib.Core.List.{List, map, flatten}
 use lib.ListN.{length, take, drop}
+use Rattle.theory.specs.Limits.{maxStates}
 use Rattle.theory.specs.Tests.{upFrom}
 use Rattle.theory.specs.Orders.{Order}
-use Rattle.theory.specs.Construction.{Marks, nodes, states, maxStates}
+use Rattle.theory.specs.Construction.{Marks, nodes, states}
 use Rattle.theory.specs.Query.{Bytes, rowAt, readQuery}
-use Rattle.theory.specs.Table.{Table, tableOf, number}
+use Rattle.theory.specs.Table.{Table, number}
+use Rattle.theory.specs.Scratch.{successorsPart}
+use Rattle.theory.specs.Build.{queryTable}
 use Rattle.nodes.specs.Nodes.{Prepared, NodesAre}
 
 -- A set of nodes as 32 bytes, bit i for node i, the rest 0.
@@ -27,14 +30,11 @@ abbrev pub statesOf : Bytes → List Marks
 statesOf b = states (readQuery b) (nodesOf b)
 
 abbrev pub contentsOf : Bytes → Table
-contentsOf b = tableOf (readQuery b) (nodesOf b) (statesOf b)
+contentsOf b = queryTable (readQuery b)
 
--- The numbered states come first in the work memory, 32 bytes each; their successors come from 4,096 on, a row of S for each.
+-- The numbered states come first in the work memory, 32 bytes each; their successors are in a part of their own, a row of S for each.
 abbrev pub stateRows : ℕ → Bytes → List Bytes
 stateRows count work = map (λ i. rowAt 0 32 i work) (upFrom 0 count)
-
-abbrev pub successorsPart : ℕ
-successorsPart = 4096
 
 -- The work memory has the q states and their successors, and `starts` the starts.
 pub record StatesAre (b work starts : Bytes) (q : ℕ) : Type 0 where

@@ -11,7 +11,8 @@ fn add(query: &[u8], own: &mut [u8], m: usize, i: u8, set: u8) -> usize
     requires { ⌜ m < length (now own) ⌝ }
     ensures { λ r. ⌜ (length (now (own .exit)) ≡ length (now (own .entry))) × (r ≤ m + 1) × (take r (now (own .exit)) ≡ take m (now (own .entry)) ++ ownAt (now (query .entry)) set i) ⌝ }
 {
-    if query::bytes::head(query, query::bytes::order_count(query) + i as u16) % 16 != set {
+    let dependency = query::dependency(query, i);
+    if dependency.set != set {
         return m;
     }
     own[m] = i;

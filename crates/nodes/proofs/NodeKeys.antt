@@ -6,9 +6,10 @@ use mathlib.Core.Path.{_≡_, refl, sym, _∙_, ap, subst}
 use mathlib.Core.List.{List, map, map-map, List·Memᴰ, List·Memᴰ·head, List·Memᴰ·tail, Memᴰ·append-left, Memᴰ·of-map}
 use lib.Dec.{eqb}
 use lib.ListN.{length, length-map, length-take}
+use Rattle.theory.specs.Limits.{maxNodes}
 use Rattle.theory.specs.Orders.{Order, Rule, fix, equal, Dependency, allRules, sameOrder}
 use Rattle.theory.specs.Closure.{closure}
-use Rattle.theory.specs.Construction.{Wanted, asked, settles, equals, equals′, columnsOf, isWanted, keep, kept, steps, keptSteps, nodes, maxNodes}
+use Rattle.theory.specs.Construction.{Wanted, asked, settles, equals, equals′, columnsOf, isWanted, keep, kept, steps, keptSteps, nodes}
 use Rattle.theory.specs.Query.{Bytes, columnCount, readQuery}
 use Rattle.theory.proofs.Reflect.{decides-number, decides-order, says-true}
 use Rattle.theory.proofs.WantedLaws.{says-wanted, kept-interesting}

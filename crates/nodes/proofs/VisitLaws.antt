@@ -7,9 +7,10 @@ use mathlib.Core.List.{List, [], map}
 use lib.Dec.{eqb}
 use lib.ListN.{length, take, getD, length-map}
 use lib.Seq.{length-take-le}
+use Rattle.theory.specs.Limits.{maxNodes}
 use Rattle.theory.specs.Orders.{allRules}
 use Rattle.theory.specs.Closure.{addAll, closure}
-use Rattle.theory.specs.Construction.{nodes, maxNodes}
+use Rattle.theory.specs.Construction.{nodes}
 use Rattle.theory.specs.Query.{Bytes, readQuery}
 use Rattle.theory.proofs.Reflect.{decides-number}
 use Rattle.derivation.specs.Keys.{keyOf, keySteps}

@@ -4,8 +4,9 @@ use mathlib.Core.Path.{_≡_}
 use mathlib.Core.List.{List, map}
 use lib.Dec.{eqb}
 use lib.ListN.{length, take}
+use Rattle.theory.specs.Limits.{maxNodes}
 use Rattle.theory.specs.Closure.{addAll}
-use Rattle.theory.specs.Construction.{nodes, maxNodes, isWanted, longest}
+use Rattle.theory.specs.Construction.{nodes, isWanted, longest}
 use Rattle.theory.specs.Refusals.{passed}
 use Rattle.theory.specs.Query.{Bytes, readQuery, queryRefusal}
 use Rattle.orders.specs.Orders.{inMask}

@@ -1,9 +1,9 @@
 -- The query that the bytes say, item by item, and what is known of its orders and dependencies when the checks pass.
-use Prim.Native.Nat.{ℕ, zero, suc, _+_, _<_, _≤_}
-use native.Mathlib.Nat.{zero-add, suc-add, add-suc, add-zero}
+use Prim.Native.Nat.{ℕ, _+_, _<_, _≤_}
+use native.Mathlib.Nat.{zero-add}
 use native.Mathlib.Omega.{arith}
 use mathlib.Core.Path.{_≡_, sym, _∙_, ap}
-use mathlib.Core.List.{_∷_, _++_, map, map-append, List·Memᴰ, Memᴰ·of-map}
+use mathlib.Core.List.{map, map-append, List·Memᴰ, Memᴰ·of-map}
 use lib.ListN.{length, getD}
 use Rattle.theory.specs.Tests.{Distinct, upFrom}
 use Rattle.theory.specs.Orders.{Order, Dependency, interesting}
@@ -11,11 +11,7 @@ use Rattle.theory.specs.Construction.{columnsOf}
 use Rattle.theory.specs.Query.{Bytes, columnCount, producedCount, testedCount, setCount, dependencyCount, orderCount, orderAt, dependencyAt, readQuery}
 use Rattle.theory.proofs.ListLaws.{member-upFrom}
 use Rattle.query.specs.Passed.{Columns, Passed}
-use Rattle.theory.proofs.RangeLaws.{entry-at, entry-count}
-
-upFrom-append : (k m n : ℕ) → upFrom k m ++ upFrom (k + m) n ≡ upFrom k (m + n)
-upFrom-append k zero n = rw (add-zero, zero-add)
-upFrom-append k (suc m) n = rw (suc-add m n, add-suc k m, ← suc-add k m) (ap (λ l. k ∷ l) (upFrom-append (suc k) m n))
+use Rattle.theory.proofs.RangeLaws.{entry-at, entry-count, upFrom-append}
 
 -- the interesting orders are items 0 to P + T
 pub interesting-read : (b : Bytes) → interesting (readQuery b) ≡ map (orderAt b) (upFrom 0 (orderCount b))
@@ -37,10 +33,6 @@ module _ (b : Bytes) (i : ℕ) where
   dependency-at d h = entry-at (dependencyAt b) (orderCount b) (dependencyCount b) i d h
 
 module _ (b : Bytes) where
-  pub produced-count : length (readQuery b .produced) ≡ producedCount b
-  unfolding readQuery
-  produced-count = entry-count (orderAt b) 0 (producedCount b)
-
   pub interesting-count : length (interesting (readQuery b)) ≡ orderCount b
   interesting-count = rw interesting-read (entry-count (orderAt b) 0 (orderCount b))
 

@@ -8,11 +8,12 @@ use lib.Dec.{eqb, ltb}
 use lib.ListN.{length, take, length-take}
 use lib.Seq.{take-all, getD-take}
 use borrow.Author.Tests.{ltb-false, le-ltb, ne-eqb}
+use Rattle.theory.specs.Limits.{scratchLength, longestTable}
 use Rattle.theory.specs.Tests.{pick, Says, holds, fails}
 use Rattle.theory.specs.Refusals.{passed, length-refused, size-refused}
 use Rattle.theory.specs.Query.{Bytes, byteAt, outside, sizesRefusal, queryRefusal}
-use Rattle.theory.specs.Build.{refused, outcome, scratchLength}
-use Rattle.theory.specs.Listing.{listing, listed, longestTable}
+use Rattle.theory.specs.Build.{refused, outcome}
+use Rattle.theory.specs.Listing.{listing, listed}
 use Rattle.theory.proofs.Reflect.{says-ltb}
 use Rattle.theory.proofs.RefusalLaws.{neither, or-passed}
 use Rattle.theory.proofs.QueryLaws.{sizes-fit}

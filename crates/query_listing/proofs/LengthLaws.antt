@@ -8,14 +8,15 @@ use mathlib.Core.Bool.{Bool, true, false}
 use mathlib.Core.List.{List, [], _∷_, _++_, map, List·Memᴰ, List·Memᴰ·head, List·Memᴰ·tail, flatten}
 use lib.Dec.{ltb}
 use lib.ListN.{length, length-append, length-take}
+use Rattle.theory.specs.Limits.{maxNodes, maxStates, scratchLength, longestTable}
 use Rattle.theory.specs.Tests.{pick, upFrom, Says, holds, fails}
 use Rattle.theory.specs.Query.{Bytes, readQuery, queryRefusal}
 use Rattle.theory.specs.Refusals.{passed}
 use Rattle.theory.specs.Closure.{More}
-use Rattle.theory.specs.Construction.{Node, State, nodes, maxNodes, maxStates}
+use Rattle.theory.specs.Construction.{Node, State, nodes}
 use Rattle.theory.specs.Table.{statesIn, producedIn, setsIn, startIn, rowIn, heldNumber}
-use Rattle.theory.specs.Build.{Outcome, refused, built, tableBytes, outcome, scratchLength}
-use Rattle.theory.specs.Listing.{decimalWithin, decimal, refusedLabel, statesLabel, nodesLabel, startLabel, stateLabel, nextLabel, heldLabel, lineEnd, spaced, countsLine, startLine, stateLine, tableListing, listed, longestTable, listing}
+use Rattle.theory.specs.Build.{Outcome, refused, built, tableBytes, outcome}
+use Rattle.theory.specs.Listing.{decimalWithin, decimal, refusedLabel, statesLabel, nodesLabel, startLabel, stateLabel, nextLabel, heldLabel, lineEnd, spaced, countsLine, startLine, stateLine, tableListing, listed, listing}
 use Rattle.theory.specs.Lookups.{Faithful}
 use Rattle.theory.proofs.Reflect.{says-ltb}
 use Rattle.theory.proofs.ListLaws.{upFrom-length, member-upFrom, getD-member}

@@ -6,9 +6,10 @@ use mathlib.Core.List.{[]}
 use lib.ListN.{length}
 use lib.Seq.{paste, take-length}
 use borrow.Author.Tests.{lt-ltb, le-ltb}
+use Rattle.theory.specs.Limits.{scratchLength}
 use Rattle.theory.specs.Refusals.{space-refused}
 use Rattle.theory.specs.Query.{Bytes}
-use Rattle.theory.specs.Build.{scratchLength, zeroed}
+use Rattle.theory.specs.Build.{zeroed}
 use Rattle.theory.specs.Listing.{listing}
 use Rattle.query_listing.specs.Listed.{listRefusal, answerOf, textAfter, scratchAfter, Handed}
 use Rattle.query_listing.specs.declared.Listed.{Listed}

@@ -6,8 +6,8 @@ use mathlib.Core.List.{_++_}
 use lib.ListN.{length, take, drop, length-append}
 use lib.Seq.{take-at}
 use borrow.Author.Tests.{le-ltb}
+use Rattle.theory.specs.Limits.{scratchLength}
 use Rattle.theory.specs.Query.{Bytes}
-use Rattle.theory.specs.Build.{scratchLength}
 use Rattle.theory.specs.Listing.{listing}
 use Rattle.query_listing.specs.Listed.{longestListing, listRefusal, answerOf, textAfter, Listing}
 use Rattle.query_listing.specs.declared.Listed.{Listed}

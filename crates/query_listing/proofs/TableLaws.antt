@@ -6,10 +6,11 @@ use mathlib.Core.Logic.{_≢_}
 use mathlib.Core.List.{_++_}
 use lib.ListN.{length, take, drop, replicate, length-append}
 use lib.Seq.{take-at, length-paste}
+use Rattle.theory.specs.Limits.{scratchLength, longestTable}
 use Rattle.theory.specs.Refusals.{passed}
 use Rattle.theory.specs.Query.{Bytes}
-use Rattle.theory.specs.Build.{Outcome, refused, built, outcome, written, outputAfter, scratchLength}
-use Rattle.theory.specs.Listing.{decimal, refusedLabel, lineEnd, tableListing, listed, listing, longestTable}
+use Rattle.theory.specs.Build.{Outcome, refused, built, outcome, written, outputAfter}
+use Rattle.theory.specs.Listing.{decimal, refusedLabel, lineEnd, tableListing, listed, listing}
 use Rattle.theory.proofs.DemandThree.{built-facts}
 use Rattle.table.specs.Form.{Formed}
 use Rattle.listing.specs.Text.{Printed}

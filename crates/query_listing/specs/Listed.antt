@@ -4,10 +4,11 @@ use mathlib.Core.Path.{_≡_}
 use mathlib.Core.List.{_++_}
 use lib.Dec.{eqb, ltb}
 use lib.ListN.{length, take, drop}
+use Rattle.theory.specs.Limits.{scratchLength}
 use Rattle.theory.specs.Tests.{pick}
 use Rattle.theory.specs.Refusals.{passed, space-refused}
 use Rattle.theory.specs.Query.{Bytes}
-use Rattle.theory.specs.Build.{scratchLength, zeroed}
+use Rattle.theory.specs.Build.{zeroed}
 use Rattle.theory.specs.Listing.{listing}
 use Rattle.query_listing.specs.declared.Listed.{Listed}
 

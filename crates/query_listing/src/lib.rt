@@ -2,8 +2,9 @@
 ghost use mathlib.Core.Path.{_≡_};
 ghost use mathlib.Core.List.{[]};
 ghost use lib.ListN.{length};
+ghost use Rattle.theory.specs.Limits.{scratchLength};
 ghost use Rattle.theory.specs.Refusals.{space-refused};
-ghost use Rattle.theory.specs.Build.{scratchLength, zeroed};
+ghost use Rattle.theory.specs.Build.{zeroed};
 ghost use Rattle.theory.specs.Listing.{listing};
 ghost use Rattle.query_listing.specs.Listed.{listRefusal, answerOf, textAfter, scratchAfter, Handed, Listing};
 

@@ -8,27 +8,30 @@ use mathlib.Core.Bool.{Bool}
 use mathlib.Core.List.{List, [], _∷_, map, List·Memᴰ·head, List·Memᴰ·not-nil, flatten}
 use lib.ListN.{length, take, drop, getD, set, length-take, length-drop}
 use lib.Seq.{length-take-le, drop-cons, drop-length, getD-take, getD-drop, getD-set-same, getD-set-other, ext-getD}
-use Rattle.theory.specs.Tests.{Says, holds, fails}
+use Rattle.theory.specs.Limits.{maxStates}
+use Rattle.theory.specs.Tests.{Says, holds, fails, upFrom}
 use Rattle.theory.specs.Closure.{add, addAll}
-use Rattle.theory.specs.Construction.{Marks, sameMarks, startState, setNumbers, statesWithin, maxStates}
+use Rattle.theory.specs.Construction.{Marks, sameMarks, startState}
 use Rattle.theory.specs.Query.{Bytes, byteAt, setCount, readQuery}
 use Rattle.theory.proofs.Reflect.{decides-marks, says-eqb}
+use Rattle.theory.proofs.ConstructionLaws.{states-walk}
 use Rattle.theory.proofs.ClosureLaws.{addAll-has}
-use Rattle.closure.specs.Work.{packMarks, nodesOf, statesOf, contentsOf, successorsPart, StatesAre}
+use Rattle.theory.specs.Scratch.{successorsPart}
+use Rattle.closure.specs.Work.{packMarks, nodesOf, statesOf, contentsOf, StatesAre}
 use Rattle.states.specs.States.{Joined, StartsIn, Started, Visited, walkFrom, taken}
 use Rattle.theory.proofs.WalkLaws.{walk-end}
+use Rattle.theory.proofs.QueryLaws.{set-count}
 use Rattle.states.proofs.WalkLaws.{prefix-position}
 use Rattle.states.proofs.JoinedLaws.{listed-count}
-use Rattle.states.proofs.ContentLaws.{sets-are, starts-at, starts-count, successors-count}
+use Rattle.states.proofs.ContentLaws.{starts-at, starts-count, successors-count}
 use Rattle.states.proofs.VisitLaws.{ahead-prefix, prefix-length}
 
 pub started-none : (b work starts : Bytes) → Started b work starts 0 0
-unfolding statesWithin
 started-none b work starts =
     record {
       states = [];
       listed = record { few = omega arith; rows = refl; even = λ ms m. absurd (List·Memᴰ·not-nil m) };
-      ahead = refl;
+      ahead = states-walk (readQuery b) (nodesOf b);
       stored = λ j l. absurd (omega arith);
     }
 
@@ -76,7 +79,7 @@ pub visited-all : {b work starts : Bytes} {count : ℕ} → setCount b ≤ 8 →
 visited-all {b} {work} {starts} {count} small wide room begun v =
     let long = listed-count (v .listed) in
     let few = v .listed .few in
-    let all : statesOf b ≡ v .states = v .ahead ∙ walk-end sameMarks (λ ms. map (taken b ms) (setNumbers (readQuery b))) maxStates (129 - count) (v .states) count (omega arith) in
+    let all : statesOf b ≡ v .states = v .ahead ∙ walk-end sameMarks (λ ms. map (taken b ms) (upFrom 0 (readQuery b .sets))) maxStates (129 - count) (v .states) count (omega arith) in
     let total : length (flatten (contentsOf b .successors)) ≡ count * setCount b = successors-count b ∙ ap (λ n. n * setCount b) (ap length all ∙ long) in
     let low : count * setCount b ≤ 128 * 8 = mul-le-mul {n₂ = 128} few small in
     let size : length (take (length (readQuery b .produced)) starts) ≡ length (readQuery b .produced) = length-take-le (length (readQuery b .produced)) starts wide in
@@ -87,7 +90,7 @@ visited-all {b} {work} {starts} {count} small wide room begun v =
       first = ext-getD 0 (take (length (readQuery b .produced)) starts) (contentsOf b .starts) (size ∙ sym (starts-count b))
           (λ j l. let h : j < length (readQuery b .produced) = omega arith in getD-take (length (readQuery b .produced)) starts j 0 h ∙ begun j h);
       next =
-          subst (λ w. take (count * w) (drop successorsPart work) ≡ flatten (contentsOf b .successors)) (sym (sets-are b))
+          subst (λ w. take (count * w) (drop successorsPart work) ≡ flatten (contentsOf b .successors)) (sym (set-count b))
           (ext-getD 0 (take (count * setCount b) (drop 4096 work)) (flatten (contentsOf b .successors)) (span ∙ sym total)
           (λ j l. let h : j < count * setCount b = omega arith in getD-take (count * setCount b) (drop 4096 work) j 0 h ∙ getD-drop 4096 work j 0 ∙ v .stored j h));
     }

@@ -5,39 +5,39 @@ use mathlib.Core.Path.{_≡_, refl, sym, _∙_, ap, subst}
 use mathlib.Core.List.{List, [], map, append-nil, List·Memᴰ, Memᴰ·of-map, flatten}
 use lib.ListN.{length, take, drop, getD, length-map}
 use lib.Seq.{getD-take, getD-drop}
-use Rattle.theory.specs.Tests.{position}
-use Rattle.theory.specs.Construction.{Marks, sameMarks, startState, setNumbers}
+use Rattle.theory.specs.Tests.{position, upFrom}
+use Rattle.theory.specs.Construction.{Marks, sameMarks, startState}
 use Rattle.theory.specs.Query.{Bytes, setCount, readQuery}
 use Rattle.theory.specs.Table.{tableOf}
 use Rattle.theory.proofs.ListLaws.{upFrom-length, upFrom-getD}
+use Rattle.theory.proofs.RangeLaws.{entry-at, entry-count}
 use Rattle.theory.proofs.RowLaws.{getD-map, flatten-length, row-of-rows}
+use Rattle.theory.proofs.QueryLaws.{set-count}
 use Rattle.closure.specs.Work.{nodesOf, statesOf, contentsOf}
 use Rattle.states.specs.States.{taken}
-
-pub sets-are : (b : Bytes) → readQuery b .sets ≡ setCount b
-unfolding readQuery
-sets-are b = refl
 
 module _ (b : Bytes) where
   numberOf : Marks → ℕ
   numberOf ms = position sameMarks ms (statesOf b)
 
   rowOf : Marks → List ℕ
-  rowOf ms = map (λ s. numberOf (taken b ms s)) (setNumbers (readQuery b))
+  rowOf ms = map (λ s. numberOf (taken b ms s)) (upFrom 0 (readQuery b .sets))
 
   wide : (r : List ℕ) → List·Memᴰ r (map rowOf (statesOf b)) → length r ≡ setCount b
   unfolding rowOf
   wide r m =
       let t = Memᴰ·of-map rowOf (statesOf b) m in
-      ap length (sym (t .2)) ∙ length-map (setNumbers (readQuery b)) _ ∙ upFrom-length 0 (readQuery b .sets) ∙ sets-are b
+      ap length (sym (t .2)) ∙ length-map (upFrom 0 (readQuery b .sets)) _ ∙ upFrom-length 0 (readQuery b .sets) ∙ set-count b
 
   pub starts-at : (p : ℕ) → p < length (readQuery b .produced) → getD (contentsOf b .starts) p 0 ≡ position sameMarks (startState (nodesOf b) (getD (readQuery b .produced) p [])) (statesOf b)
   unfolding tableOf
-  starts-at p h = getD-map (λ o. position sameMarks (startState (nodesOf b) o) (statesOf b)) (readQuery b .produced) p 0 [] h
+  starts-at p h =
+      entry-at (λ k. position sameMarks (startState (nodesOf b) (getD (readQuery b .produced) k [])) (statesOf b)) 0 (length (readQuery b .produced)) p 0 h
+      ∙ ap (λ k. position sameMarks (startState (nodesOf b) (getD (readQuery b .produced) k [])) (statesOf b)) (zero-add p)
 
   pub starts-count : length (contentsOf b .starts) ≡ length (readQuery b .produced)
   unfolding tableOf
-  starts-count = length-map (readQuery b .produced) _
+  starts-count = entry-count (λ k. position sameMarks (startState (nodesOf b) (getD (readQuery b .produced) k [])) (statesOf b)) 0 (length (readQuery b .produced))
 
   pub successors-count : length (flatten (contentsOf b .successors)) ≡ length (statesOf b) * setCount b
   unfolding tableOf rowOf numberOf
@@ -54,5 +54,5 @@ module _ (b : Bytes) where
       ∙ sym (getD-drop (0 + i * w) (flatten rows) s 0)
       ∙ sym (getD-take w (drop (0 + i * w) (flatten rows)) s 0 l)
       ∙ ap (λ r. getD r s 0) (row ∙ getD-map rowOf (statesOf b) i [] [] h)
-      ∙ getD-map (λ n. numberOf (taken b (getD (statesOf b) i []) n)) (setNumbers (readQuery b)) s 0 0 (rw upFrom-length (rw sets-are l))
-      ∙ ap (λ n. numberOf (taken b (getD (statesOf b) i []) n)) (upFrom-getD 0 (readQuery b .sets) s 0 (rw sets-are l) ∙ zero-add s)
+      ∙ getD-map (λ n. numberOf (taken b (getD (statesOf b) i []) n)) (upFrom 0 (readQuery b .sets)) s 0 0 (rw upFrom-length (rw set-count l))
+      ∙ ap (λ n. numberOf (taken b (getD (statesOf b) i []) n)) (upFrom-getD 0 (readQuery b .sets) s 0 (rw set-count l) ∙ zero-add s)

@@ -9,7 +9,8 @@ use lib.Seq.{paste, length-paste, take-paste, drop-paste, length-take-le, drop-d
 use Rattle.theory.specs.Tests.{position}
 use Rattle.theory.specs.Query.{Bytes, byteAt, rowAt}
 use Rattle.theory.proofs.Reflect.{decides-order}
-use Rattle.closure.specs.Work.{stateRows, successorsPart}
+use Rattle.theory.specs.Scratch.{successorsPart}
+use Rattle.closure.specs.Work.{stateRows}
 use Rattle.states.specs.States.{sameRow, Placed}
 use Rattle.theory.proofs.PositionLaws.{position-bound}
 use Rattle.states.proofs.PositionLaws.{position-member, add-known, add-new, position-new}

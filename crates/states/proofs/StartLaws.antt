@@ -10,9 +10,10 @@ use mathlib.Core.List.{List, [], _∷_, _++_, map, map-map, List·Memᴰ, List·
 use lib.Dec.{eqb}
 use lib.ListN.{length, take, drop, getD, set, replicate, length-map, length-replicate, getD-replicate, take-append-drop}
 use lib.Seq.{ext-getD}
+use Rattle.theory.specs.Limits.{maxNodes}
 use Rattle.theory.specs.Tests.{Says, holds, fails, Distinct, also, member, position, upFrom}
 use Rattle.theory.specs.Orders.{Order, sameOrder, allRules}
-use Rattle.theory.specs.Construction.{marks, prefixes, startState, keptSteps, nodes, maxNodes}
+use Rattle.theory.specs.Construction.{marks, prefixes, startState, keptSteps, nodes}
 use Rattle.theory.specs.Query.{Bytes, producedCount, orderAt, readQuery}
 use Rattle.theory.specs.Table.{number}
 use Rattle.theory.proofs.Reflect.{says-member, says-as, says-one, true-says, decides-order, decides-number}
@@ -20,7 +21,7 @@ use Rattle.theory.proofs.ListLaws.{member-getD}
 use Rattle.theory.proofs.ClosureLaws.{closure-all}
 use Rattle.theory.proofs.NodeLaws.{member-kept-steps, nodes-exactly, nodes-distinct}
 use Rattle.theory.proofs.StateLaws.{marks-canonical}
-use Rattle.query.proofs.ReadLaws.{produced-at, produced-count}
+use Rattle.query.proofs.ReadLaws.{produced-at}
 use Rattle.derivation.specs.Keys.{keyOf, Small}
 use Rattle.derivation.proofs.KeyLaws.{key-injective}
 use Rattle.nodes.proofs.NodeKeys.{kept-small, produced-small, nodes-count}
@@ -29,6 +30,7 @@ use Rattle.closure.specs.Marks.{withMark}
 use Rattle.states.specs.States.{Keyed}
 use Rattle.closure.proofs.MarkLaws.{pack-length, pack-byte, pack-mark}
 use Rattle.theory.proofs.PositionLaws.{position-bound}
+use Rattle.theory.proofs.QueryLaws.{produced-count}
 use Rattle.states.proofs.PositionLaws.{position-map}
 use Rattle.states.proofs.StateRows.{upFrom-snoc}
 

@@ -8,26 +8,28 @@ use mathlib.Core.Bool.{Bool}
 use mathlib.Core.List.{List, [], _∷_, map, List·Memᴰ·head, IsPrefix, flatten}
 use lib.ListN.{length, drop, getD, set, length-set, length-append}
 use lib.Seq.{getD-drop, getD-set-same, getD-set-other}
+use Rattle.theory.specs.Limits.{maxStates}
 use Rattle.theory.specs.Tests.{Says, holds, fails, position, upFrom}
 use Rattle.theory.specs.Closure.{add, addAll}
-use Rattle.theory.specs.Construction.{Marks, sameMarks, setNumbers, maxStates}
+use Rattle.theory.specs.Construction.{Marks, sameMarks}
 use Rattle.theory.specs.Query.{Bytes, byteAt, setCount, readQuery}
 use Rattle.theory.proofs.Reflect.{decides-marks, says-eqb}
-use Rattle.theory.proofs.QueryLaws.{query-sizes}
+use Rattle.theory.proofs.QueryLaws.{query-sizes, set-count}
 use Rattle.theory.proofs.ClosureLaws.{addAll-keeps, addAll-has}
-use Rattle.closure.specs.Work.{Ready, statesOf, contentsOf, successorsPart}
+use Rattle.theory.specs.Scratch.{successorsPart}
+use Rattle.closure.specs.Work.{Ready, statesOf, contentsOf}
 use Rattle.states.specs.States.{Listed, Joined, taken, walkFrom, Visited, Visiting}
 use Rattle.theory.proofs.WalkLaws.{walk-more}
 use Rattle.states.proofs.StateRows.{rows-kept}
 use Rattle.states.proofs.WalkLaws.{prefix-trans, prefix-getD, prefix-position, walk-keeps}
 use Rattle.states.proofs.JoinedLaws.{listed-count}
-use Rattle.states.proofs.ContentLaws.{sets-are, successors-at}
+use Rattle.states.proofs.ContentLaws.{successors-at}
 
 -- what follows l in the walk begins with l
 pub ahead-prefix : (b : Bytes) (l xs : List Marks) (fuel i : ℕ) → statesOf b ≡ walkFrom b fuel (addAll sameMarks l xs) i → IsPrefix l (statesOf b)
 ahead-prefix b l xs fuel i e =
     prefix-trans l (addAll-keeps decides-marks xs l)
-    (subst (λ m. IsPrefix (addAll sameMarks l xs) m) (sym e) (walk-keeps decides-marks (λ ms. map (taken b ms) (setNumbers (readQuery b))) maxStates fuel (addAll sameMarks l xs) i))
+    (subst (λ m. IsPrefix (addAll sameMarks l xs) m) (sym e) (walk-keeps decides-marks (λ ms. map (taken b ms) (upFrom 0 (readQuery b .sets))) maxStates fuel (addAll sameMarks l xs) i))
 
 pub prefix-length : {A : Type 0} (l : List A) {m : List A} → IsPrefix l m → length l ≤ length m
 prefix-length l p = omega (arith, simp length-append at (ap length (p .1)))
@@ -58,13 +60,13 @@ module _ {b work : Bytes} {count i : ℕ} where
       let few = v .listed .few in
       let long = listed-count (v .listed) in
       let fuel : 129 - i ≡ suc (128 - i) = omega arith in
-      let visit = walk-more sameMarks (λ ms. map (taken b ms) (setNumbers (readQuery b))) maxStates (128 - i) (v .states) i [] (omega arith) (omega arith) in
+      let visit = walk-more sameMarks (λ ms. map (taken b ms) (upFrom 0 (readQuery b .sets))) maxStates (128 - i) (v .states) i [] (omega arith) (omega arith) in
       record {
         states = v .states;
         listed = v .listed;
         here = h;
         ahead = v .ahead ∙ ap (λ f. walkFrom b f (v .states) i) fuel ∙ visit
-            ∙ ap (λ n. walkFrom b (128 - i) (addAll sameMarks (v .states) (map (taken b (getD (v .states) i [])) (upFrom 0 n))) (suc i)) (sets-are b ∙ sym (sub-zero (setCount b)));
+            ∙ ap (λ n. walkFrom b (128 - i) (addAll sameMarks (v .states) (map (taken b (getD (v .states) i [])) (upFrom 0 n))) (suc i)) (set-count b ∙ sym (sub-zero (setCount b)));
         stored = rw add-zero (v .stored);
       }
 

@@ -6,15 +6,17 @@ use mathlib.Core.Bool.{Bool}
 use mathlib.Core.List.{List, [], map, List·Memᴰ, flatten}
 use lib.Dec.{eqb}
 use lib.ListN.{length, drop, getD}
+use Rattle.theory.specs.Limits.{maxStates}
 use Rattle.theory.specs.Tests.{sameList, position, upFrom}
 use Rattle.theory.specs.Orders.{Order}
 use Rattle.theory.specs.Closure.{add, addAll, walk}
-use Rattle.theory.specs.Construction.{Marks, sameMarks, startState, takeSet, setNumbers, maxStates}
+use Rattle.theory.specs.Construction.{Marks, sameMarks, startState, takeSet}
 use Rattle.theory.specs.Refusals.{passed}
 use Rattle.theory.specs.Query.{Bytes, byteAt, setCount, readQuery, queryRefusal}
 use Rattle.derivation.specs.Keys.{Small}
 use Rattle.nodes.specs.Nodes.{NodesAre}
-use Rattle.closure.specs.Work.{packMarks, nodesOf, statesOf, contentsOf, stateRows, successorsPart}
+use Rattle.theory.specs.Scratch.{successorsPart}
+use Rattle.closure.specs.Work.{packMarks, nodesOf, statesOf, contentsOf, stateRows}
 
 abbrev pub sameRow : Bytes → Bytes → Bool
 sameRow = sameList eqb
@@ -49,7 +51,7 @@ abbrev pub taken : Bytes → Marks → ℕ → Marks
 taken b ms s = takeSet (readQuery b) (nodesOf b) ms s
 
 abbrev pub walkFrom : Bytes → ℕ → List Marks → ℕ → List Marks
-walkFrom b fuel l i = walk sameMarks (λ ms. map (taken b ms) (setNumbers (readQuery b))) maxStates fuel l i
+walkFrom b fuel l i = walk sameMarks (λ ms. map (taken b ms) (upFrom 0 (readQuery b .sets))) maxStates fuel l i
 
 -- The first m starts and the first m successors are written.
 abbrev pub StartsIn : Bytes → Bytes → ℕ → Type 0

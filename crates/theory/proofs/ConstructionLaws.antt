@@ -1,25 +1,33 @@
 -- The construction as a machine: its numbered states are its reached states, and it tells the query's derivation.
 use Prim.Native.Nat.{ℕ, _≤_}
-use mathlib.Core.Path.{sym, _∙_, subst}
+use mathlib.Core.Path.{_≡_, sym, _∙_, ap, subst}
 use mathlib.Core.Bool.{false}
-use mathlib.Core.List.{[]}
+use mathlib.Core.List.{List, [], map}
 use lib.ListN.{length, getD, length-map, length-append}
 use borrow.Author.Tests.{ltb-false}
-use Rattle.theory.specs.Tests.{Says}
+use Rattle.theory.specs.Tests.{Says, upFrom}
 use Rattle.theory.specs.Limits.{maxNodes, maxStates}
-use Rattle.theory.specs.Orders.{Query, interesting, After}
-use Rattle.theory.specs.Closure.{More}
-use Rattle.theory.specs.Machine.{runs}
-use Rattle.theory.specs.Construction.{Node, State, nodes, states, sizesOf, holdsIn, construction}
+use Rattle.theory.specs.Orders.{Order, Query, interesting, After}
+use Rattle.theory.specs.Closure.{More, closure}
+use Rattle.theory.specs.Machine.{runs, numberedWithin}
+use Rattle.theory.specs.Construction.{Node, sameMarks, startState, takeSet, State, nodes, states, sizesOf, holdsIn, construction}
 use Rattle.theory.specs.Lookups.{Tells}
 use Rattle.theory.proofs.Reflect.{false-says, decides-marks}
 use Rattle.theory.proofs.ListLaws.{member-getD}
-use Rattle.theory.proofs.RowLaws.{getD-map}
+use Rattle.theory.proofs.RowLaws.{getD-map, entries}
 use Rattle.theory.proofs.NodeLaws.{nodes-exactly, nodes-many}
 use Rattle.theory.proofs.StateLaws.{says-held}
 use Rattle.theory.proofs.MachineLaws.{numbered-exactly}
 use Rattle.theory.proofs.MachineTable.{Enumerated}
 use Rattle.theory.proofs.BuildLaws.{states-many}
+
+-- the starts by number are those of the produced orders, so the states are numbered from these
+pub states-walk : (q : Query) (ns : List Order) → states q ns ≡ closure sameMarks (λ ms. map (takeSet q ns ms) (upFrom 0 (q .sets))) maxStates (map (startState ns) (q .produced))
+unfolding numberedWithin
+states-walk q ns =
+    ap (closure sameMarks (λ ms. map (takeSet q ns ms) (upFrom 0 (q .sets))) maxStates)
+    (entries (λ p. startState ns (getD (q .produced) p [])) (map (startState ns) (q .produced)) [] (length (q .produced)) (length-map (q .produced) (startState ns))
+    (λ i h. sym (getD-map (startState ns) (q .produced) i [] [] h)))
 
 -- The construction is within its limits.
 pub record Constructible (q : Query) : Type 0 where

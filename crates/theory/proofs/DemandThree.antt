@@ -2,40 +2,25 @@
 -- refusals and answers, and whenever an order is held it holds of all rows.
 use Prim.Native.Nat.{ℕ, _≤_, _<_}
 use native.Mathlib.Omega.{arith}
-use mathlib.Core.Path.{_≡_, refl, sym, _∙_, ap, subst}
+use mathlib.Core.Path.{_≡_, sym, _∙_, ap, subst}
 use mathlib.Core.List.{List, _∷_}
-use lib.ListN.{length, length-map}
-use Rattle.theory.specs.Tests.{upFrom}
+use lib.ListN.{length}
 use Rattle.theory.specs.Limits.{maxProduced, maxTested, maxSets}
 use Rattle.theory.specs.Orders.{Order}
 use Rattle.theory.specs.Construction.{nodes, states, sizesOf, construction}
 use Rattle.theory.specs.Refusals.{passed}
-use Rattle.theory.specs.Query.{Bytes, readQuery, orderAt, queryRefusal, producedCount, testedCount, setCount}
+use Rattle.theory.specs.Query.{Bytes, readQuery, queryRefusal}
 use Rattle.theory.specs.Table.{writeTable, tableRefusal, readTable}
 use Rattle.theory.specs.Build.{its-table, queryTable, Outcome, refused, built, outcome, Means, query-refused, scratch-short, not-constructed, output-short, table-built}
 use Rattle.theory.specs.Lookups.{Lookup, entry, run, Answers, Faithful}
-use Rattle.theory.proofs.ListLaws.{upFrom-length}
 use Rattle.theory.proofs.RowTheorem.{row-theorem}
-use Rattle.theory.proofs.QueryLaws.{query-sizes}
+use Rattle.theory.proofs.QueryLaws.{query-sizes, produced-count, tested-count, set-count}
 use Rattle.theory.proofs.TableLaws.{round-trip}
 use Rattle.theory.proofs.MachineTable.{Limited, table-sized}
 use Rattle.theory.proofs.BuildLaws.{outcome-means}
 use Rattle.theory.proofs.LookupLaw.{lookup-law}
 use Rattle.theory.proofs.Faithfulness.{faithful-table, table-passes}
 use Rattle.theory.proofs.ConstructionLaws.{Constructible, constructible, states-known, construction-tells}
-
--- the counts of orders are the sizes
-pub produced-count : (b : Bytes) → length (readQuery b .produced) ≡ producedCount b
-unfolding readQuery
-produced-count b = length-map (upFrom 0 (producedCount b)) (orderAt b) ∙ upFrom-length 0 (producedCount b)
-
-pub tested-count : (b : Bytes) → length (readQuery b .tested) ≡ testedCount b
-unfolding readQuery
-tested-count b = length-map (upFrom (producedCount b) (testedCount b)) (orderAt b) ∙ upFrom-length (producedCount b) (testedCount b)
-
-pub set-count : (b : Bytes) → readQuery b .sets ≡ setCount b
-unfolding readQuery
-set-count b = refl
 
 -- the sizes of a query that passed checks 1 to 6 are within their limits
 pub query-limited : (query : Bytes) → queryRefusal query ≡ passed → Limited (sizesOf (readQuery query))

@@ -16,9 +16,9 @@ pub mod StateLaws
 pub mod RepeatLaws
 pub mod Picks
 pub mod RefusalLaws
-pub mod QueryLaws
 pub mod RowLaws
 pub mod RangeLaws
+pub mod QueryLaws
 pub mod TableLaws
 pub mod MachineTable
 pub mod LookupLaw

@@ -1,13 +1,14 @@
--- The sizes of a query that passes its checks.
+-- The sizes of a query, and their limits where it passes checks 1 to 6.
 use Prim.Native.Nat.{_+_, _*_, _≤_}
 use native.Mathlib.Omega.{arith}
-use mathlib.Core.Path.{_≡_}
+use mathlib.Core.Path.{_≡_, refl}
 use lib.Dec.{ltb, eqb}
 use lib.ListN.{length}
 use borrow.Author.Tests.{ltb-false, eqb-true}
 use Rattle.theory.specs.Limits.{maxColumns, maxProduced, maxTested, maxSets, maxDependencies, querySizes, itemWidth}
 use Rattle.theory.specs.Refusals.{passed, firstRefusal, firstOf}
-use Rattle.theory.specs.Query.{Bytes, columnCount, producedCount, testedCount, setCount, dependencyCount, itemCount, outside, sizesRefusal, itemRefusal, twinRefusal, queryRefusal}
+use Rattle.theory.specs.Query.{Bytes, columnCount, producedCount, testedCount, setCount, dependencyCount, itemCount, orderAt, readQuery, outside, sizesRefusal, itemRefusal, twinRefusal, queryRefusal}
+use Rattle.theory.proofs.RangeLaws.{entry-count}
 use Rattle.theory.proofs.RefusalLaws.{refused-then, refused-else, neither, or-passed}
 
 -- The sizes are within their limits, and the bytes are as many as they imply.
@@ -47,3 +48,16 @@ sizes-fit b e =
 pub query-sizes : (b : Bytes) → queryRefusal b ≡ passed → SizesFit b
 unfolding queryRefusal
 query-sizes b e = sizes-fit b (or-passed (sizesRefusal b) (firstRefusal (firstOf (itemRefusal b) (itemCount b)) (twinRefusal b)) e .0)
+
+-- the counts of orders and sets are the sizes
+pub produced-count : (b : Bytes) → length (readQuery b .produced) ≡ producedCount b
+unfolding readQuery
+produced-count b = entry-count (orderAt b) 0 (producedCount b)
+
+pub tested-count : (b : Bytes) → length (readQuery b .tested) ≡ testedCount b
+unfolding readQuery
+tested-count b = entry-count (orderAt b) (producedCount b) (testedCount b)
+
+pub set-count : (b : Bytes) → readQuery b .sets ≡ setCount b
+unfolding readQuery
+set-count b = refl

@@ -18,7 +18,7 @@ entry-at f k n i d h = getD-map f (upFrom k n) i d 0 (rw upFrom-length h) ∙ ap
 pub entry-count : {A : Type 0} (f : ℕ → A) (k n : ℕ) → length (map f (upFrom k n)) ≡ n
 entry-count f k n = length-map (upFrom k n) f ∙ upFrom-length k n
 
-upFrom-append : (k m n : ℕ) → upFrom k m ++ upFrom (k + m) n ≡ upFrom k (m + n)
+pub upFrom-append : (k m n : ℕ) → upFrom k m ++ upFrom (k + m) n ≡ upFrom k (m + n)
 upFrom-append k zero n = rw (add-zero, zero-add)
 upFrom-append k (suc m) n = rw (suc-add m n, add-suc k m, ← suc-add k m) (ap (λ l. k ∷ l) (upFrom-append (suc k) m n))
 

@@ -4,9 +4,10 @@ use mathlib.Core.Path.{_≡_, refl, sym, _∙_, ap, ap₂, subst}
 use mathlib.Core.Bool.{true, false≢true}
 use mathlib.Core.List.{[], List·Memᴰ}
 use lib.ListN.{length, getD}
+use Rattle.theory.specs.Limits.{maxNodes}
 use Rattle.theory.specs.Tests.{Says, every}
 use Rattle.theory.specs.Orders.{interesting, After}
-use Rattle.theory.specs.Construction.{nodes, statesWithin, wantedColumns, kept, steps, keptSteps, startState, takeSet, holdsIn, maxNodes}
+use Rattle.theory.specs.Construction.{nodes, statesWithin, wantedColumns, kept, steps, keptSteps, startState, takeSet, holdsIn}
 use Rattle.theory.specs.Query.{Bytes, readQuery, sizesRefusal, bodyRefusal, orderRefusal, dependencyRefusal, itemRefusal, twinRefusal, queryRefusal}
 use Rattle.theory.specs.Table.{tableOf, writeTable}
 use Rattle.theory.specs.Build.{Outcome, refused, built, construct, outcome}

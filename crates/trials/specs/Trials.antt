@@ -5,13 +5,13 @@ use mathlib.Core.Bool.{Bool, true, false, _&&_, Bool·beq}
 use mathlib.Core.List.{List, [], _∷_}
 use lib.Dec.{eqb, ltb, leb}
 use lib.ListN.{length, getD}
+use Rattle.theory.specs.Limits.{maxNodes, scratchLength, longestTable}
 use Rattle.theory.specs.Tests.{Says, sameList}
 use Rattle.theory.specs.Orders.{Query, interesting, After}
 use Rattle.theory.specs.Closure.{Exactly}
-use Rattle.theory.specs.Construction.{Marks, sameMarks, nodes, startState, takeSets, holdsIn, statesWithin, State, maxNodes}
+use Rattle.theory.specs.Construction.{Marks, sameMarks, nodes, startState, takeSets, holdsIn, statesWithin, State}
 use Rattle.theory.specs.Query.{Bytes, readQuery}
-use Rattle.theory.specs.Build.{Outcome, refused, built, outcome, scratchLength}
-use Rattle.theory.specs.Listing.{longestTable}
+use Rattle.theory.specs.Build.{Outcome, refused, built, outcome}
 
 -- What is expected of a query.
 pub data Expectation : Type 0 where

@@ -26,6 +26,7 @@ dependencies-requires : tie.Need-dependencies-requires Inv-loop μ-loop
 dependencies-requires c κs = search needs
 
 loop-holds : tie.Need-loop-holds Inv-loop μ-loop
+unfolding flatten
 loop-holds c = let a = c .before .before .before .args in (omega arith, omega arith, added-none (a .nodes .now) (a .n) (omega arith) (omega arith))
 
 dependency-requires : tie.Need-dependency-requires Inv-loop μ-loop

@@ -1,8 +1,7 @@
 -- `states::number` meets its contract: the starts are more than there is room for, or the walk goes on from them.
 use mathlib.Core.Path.{_∙_}
 use denote.Ref.{now}
-use Rattle.theory.proofs.QueryLaws.{query-sizes}
-use Rattle.query.proofs.ReadLaws.{produced-count}
+use Rattle.theory.proofs.QueryLaws.{query-sizes, produced-count}
 use Rattle.states.proofs.BeginLaws.{started-all, visited-all}
 -- `builder::states::number` meets its contract: the starts first, then the walk.
 use native.Mathlib.Omega.{arith}

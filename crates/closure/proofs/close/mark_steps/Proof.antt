@@ -21,6 +21,7 @@ abbrev μ-loop : tie.MeasureT-loop
 μ-loop query own m nodes n marks₀ o wanted longest count₀ j₀ marks count j = m - j
 
 loop-holds : tie.Need-loop-holds Inv-loop μ-loop
+unfolding flatten
 loop-holds c = (omega arith, room-none (c .before .before .before .before .pre .0))
 
 shared-slice-read-mark-dependency : tie.Need-shared-slice-read-mark-dependency Inv-loop μ-loop

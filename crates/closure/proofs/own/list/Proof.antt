@@ -23,6 +23,7 @@ dependencies-requires : tie.Need-dependencies-requires Inv-loop μ-loop
 dependencies-requires c κs = search needs
 
 loop-holds : tie.Need-loop-holds Inv-loop μ-loop
+unfolding flatten
 loop-holds c = (refl, omega arith, omega arith, refl)
 
 add-requires : tie.Need-add-requires Inv-loop μ-loop

@@ -6,8 +6,7 @@ use denote.Ref.{now}
 use lib.ListN.{length, length-set}
 use borrow.Author.Needs.{needs}
 use Rattle.theory.specs.Query.{producedCount, readQuery}
-use Rattle.theory.proofs.QueryLaws.{query-sizes}
-use Rattle.query.proofs.ReadLaws.{produced-count}
+use Rattle.theory.proofs.QueryLaws.{query-sizes, produced-count}
 use Rattle.states.specs.States.{Started}
 use Rattle.states.proofs.BeginLaws.{started-none, started-more, started-over}
 use Rattle.states.proofs.starts.number_starts.Statement.{statement}

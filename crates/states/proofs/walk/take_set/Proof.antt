@@ -6,13 +6,13 @@ use denote.Ref.{now}
 use lib.ListN.{length, getD}
 use borrow.Author.Needs.{needs}
 use Rattle.theory.specs.Query.{readQuery}
+use Rattle.theory.proofs.QueryLaws.{set-count}
 use Rattle.closure.specs.Work.{nodesOf}
 use Rattle.states.specs.States.{Placed, taken}
 use Rattle.states.proofs.StateRows.{row-length}
 use Rattle.nodes.proofs.NodeKeys.{nodes-count}
 use Rattle.closure.proofs.TakenLaws.{taken-length}
 use Rattle.states.proofs.JoinedLaws.{listed-row, listed-even, joined}
-use Rattle.states.proofs.ContentLaws.{sets-are}
 use Rattle.states.proofs.walk.take_set.Statement.{statement}
 use Rattle.states.proofs.walk.take_set.Tie as tie
 
@@ -29,7 +29,7 @@ close-requires : tie.Need-close-requires
 close-requires c κs =
     let s = c .before .before .before .before .before .before .before .before in
     let a = s .args in
-    (s .pre .0, ap length (c .before .before .read-state .ensures) ∙ row-length (now (a .work)) (a .i) (omega arith), rw sets-are (s .pre .3))
+    (s .pre .0, ap length (c .before .before .read-state .ensures) ∙ row-length (now (a .work)) (a .i) (omega arith), rw set-count (s .pre .3))
 
 slice-aggregate-number-state : tie.Need-slice-aggregate-number-state
 slice-aggregate-number-state c = search needs

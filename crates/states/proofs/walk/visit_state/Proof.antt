@@ -7,7 +7,7 @@ use lib.ListN.{length, set, length-set}
 use borrow.Author.Needs.{needs}
 use Rattle.theory.specs.Query.{setCount}
 use Rattle.theory.proofs.QueryLaws.{query-sizes}
-use Rattle.closure.specs.Work.{successorsPart}
+use Rattle.theory.specs.Scratch.{successorsPart}
 use Rattle.states.specs.States.{Visiting}
 use Rattle.states.proofs.VisitLaws.{slot-within, visiting-none, visiting-all, visiting-more, visiting-over}
 use Rattle.states.proofs.walk.visit_state.Statement.{statement}
