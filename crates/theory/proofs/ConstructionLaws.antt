@@ -1,6 +1,6 @@
 -- The construction as a machine: its numbered states are its reached states, and it tells the query's derivation.
 use Prim.Native.Nat.{ℕ, _≤_}
-use mathlib.Core.Path.{_≡_, sym, _∙_, ap, subst}
+use mathlib.Core.Path.{_≡_, refl, sym, _∙_, ap, subst}
 use mathlib.Core.Bool.{false}
 use mathlib.Core.List.{List, [], map}
 use lib.ListN.{length, getD, length-map, length-append}
@@ -9,16 +9,20 @@ use Rattle.theory.specs.Tests.{Says, upFrom}
 use Rattle.theory.specs.Limits.{maxNodes, maxStates}
 use Rattle.theory.specs.Orders.{Order, Query, interesting, After}
 use Rattle.theory.specs.Closure.{More, closure}
-use Rattle.theory.specs.Machine.{runs, numberedWithin}
-use Rattle.theory.specs.Construction.{Node, sameMarks, startState, takeSet, State, nodes, states, sizesOf, holdsIn, construction}
-use Rattle.theory.specs.Lookups.{Tells}
+use Rattle.theory.specs.Machine.{Machine, runs, numberedWithin}
+use Rattle.theory.specs.Construction.{Node, Marks, sameMarks, startState, takeSet, State, nodes, states, sizesOf, holdsIn, construction}
+use Rattle.theory.specs.Refusals.{passed}
+use Rattle.theory.specs.Table.{Table, Sized, tableOf, writeTable, tableRefusal}
+use Rattle.theory.specs.Build.{Constructs, its-table, table, queryTable}
+use Rattle.theory.specs.Lookups.{Tells, Faithful}
 use Rattle.theory.proofs.Reflect.{false-says, decides-marks}
 use Rattle.theory.proofs.ListLaws.{member-getD}
 use Rattle.theory.proofs.RowLaws.{getD-map, entries}
 use Rattle.theory.proofs.NodeLaws.{nodes-exactly, nodes-many}
 use Rattle.theory.proofs.StateLaws.{says-held}
 use Rattle.theory.proofs.MachineLaws.{numbered-exactly}
-use Rattle.theory.proofs.MachineTable.{Enumerated}
+use Rattle.theory.proofs.MachineTable.{Limited, Enumerated, table-sized}
+use Rattle.theory.proofs.Faithfulness.{faithful-table, table-passes}
 use Rattle.theory.proofs.BuildLaws.{states-many}
 
 -- the starts by number are those of the produced orders, so the states are numbered from these
@@ -59,3 +63,34 @@ module _ (q : Query) (within : Constructible q) where
       let ms = runs (construction q (nodes q)) (construction q (nodes q) .start p) ss in
       subst (Says (After q (getD (q .produced) p []) ss o)) (sym (getD-map (λ r. holdsIn (nodes q) ms r) (interesting q) i false [] l))
       (says-held q (nodes q) (nodes-exactly q (within .few-nodes)) (getD (q .produced) p []) o ss (member-getD (q .produced) p [] h) (member-getD (interesting q) i [] l))
+
+-- What is known where constructing gives a table.
+pub record Made (q : Query) (t : Table) (n : ℕ) : Type 0 where
+  pub within : Constructible q
+  pub table-is : t ≡ queryTable q
+  pub count-is : n ≡ length (nodes q)
+
+pub made : (q : Query) {t : Table} {n : ℕ} → Constructs q (table t n) → Made q t n
+made q (its-table k m) = record { within = constructible q k m; table-is = refl; count-is = refl }
+
+module _ {q : Query} {t : Table} {n : ℕ} (limits : Limited (sizesOf q)) (d : Made q t n) where
+  abbrev machine : Machine Marks
+  machine = construction q (nodes q)
+
+  abbrev known : Enumerated machine (sizesOf q) (states q (nodes q))
+  known = states-known q (d .within)
+
+  pub made-sized : Sized t
+  made-sized = subst Sized (sym (d .table-is)) (table-sized machine (sizesOf q) (states q (nodes q)) limits known)
+
+  pub made-faithful : Faithful q (writeTable t)
+  made-faithful =
+      subst (λ k. Faithful q (writeTable k)) (sym (d .table-is)) (faithful-table q machine (states q (nodes q)) limits known (construction-tells q (d .within)))
+
+  pub made-passes : tableRefusal (writeTable t) ≡ passed
+  made-passes = subst (λ k. tableRefusal (writeTable k) ≡ passed) (sym (d .table-is)) (table-passes q machine (states q (nodes q)) limits known)
+
+  -- the table has the query's sizes
+  pub made-counts : (t .producedCount ≡ length (q .produced)) × (t .testedCount ≡ length (q .tested)) × (t .setCount ≡ q .sets)
+  unfolding tableOf
+  made-counts = rw (d .table-is) (refl, refl, refl)

@@ -7,20 +7,19 @@ use mathlib.Core.List.{List, _∷_}
 use lib.ListN.{length}
 use Rattle.theory.specs.Limits.{maxProduced, maxTested, maxSets}
 use Rattle.theory.specs.Orders.{Order}
-use Rattle.theory.specs.Construction.{nodes, states, sizesOf, construction}
+use Rattle.theory.specs.Construction.{sizesOf}
 use Rattle.theory.specs.Refusals.{passed}
 use Rattle.theory.specs.Query.{Bytes, readQuery, queryRefusal}
-use Rattle.theory.specs.Table.{writeTable, tableRefusal, readTable}
-use Rattle.theory.specs.Build.{its-table, queryTable, Outcome, refused, built, outcome, Means, query-refused, scratch-short, not-constructed, output-short, table-built}
+use Rattle.theory.specs.Table.{Table, writeTable, tableRefusal, readTable}
+use Rattle.theory.specs.Build.{queryTable, Outcome, refused, built, outcome, Means, query-refused, scratch-short, not-constructed, output-short, table-built}
 use Rattle.theory.specs.Lookups.{Lookup, entry, run, Answers, Faithful}
 use Rattle.theory.proofs.RowTheorem.{row-theorem}
 use Rattle.theory.proofs.QueryLaws.{query-sizes, produced-count, tested-count, set-count}
 use Rattle.theory.proofs.TableLaws.{round-trip}
-use Rattle.theory.proofs.MachineTable.{Limited, table-sized}
+use Rattle.theory.proofs.MachineTable.{Limited}
 use Rattle.theory.proofs.BuildLaws.{outcome-means}
 use Rattle.theory.proofs.LookupLaw.{lookup-law}
-use Rattle.theory.proofs.Faithfulness.{faithful-table, table-passes}
-use Rattle.theory.proofs.ConstructionLaws.{Constructible, constructible, states-known, construction-tells}
+use Rattle.theory.proofs.ConstructionLaws.{Made, made, made-sized, made-faithful, made-passes}
 
 -- the sizes of a query that passed checks 1 to 6 are within their limits
 pub query-limited : (query : Bytes) → queryRefusal query ≡ passed → Limited (sizesOf (readQuery query))
@@ -36,9 +35,9 @@ query-limited query c =
 -- What is known where a build gives a table.
 pub record Built (query t : Bytes) (n : ℕ) : Type 0 where
   pub checked : queryRefusal query ≡ passed
-  pub within : Constructible (readQuery query)
-  pub bytes-are : t ≡ writeTable (queryTable (readQuery query))
-  pub count-is : n ≡ length (nodes (readQuery query))
+  pub contents : Table
+  pub made : Made (readQuery query) contents n
+  pub bytes-are : t ≡ writeTable contents
 
 pub built-facts : (query : Bytes) (scratch output : ℕ) (t : Bytes) (n : ℕ) → outcome query scratch output ≡ built t n → Built query t n
 built-facts query scratch output t n e = go (outcome-means query scratch output) e
@@ -51,27 +50,20 @@ built-facts query scratch output t n e = go (outcome-means query scratch output)
     go (scratch-short _ _) d = never d
     go (not-constructed _ _ _) d = never d
     go (output-short _ _ _ _) d = never d
-    go (table-built c s (its-table k m) h) d = record { checked = c; within = constructible (readQuery query) k m; bytes-are = cc; count-is = cc }
+    go (table-built {t = k} {n = m} c s x h) d =
+        let count : m ≡ n = cc in
+        record { checked = c; contents = k; made = subst (Made (readQuery query) k) count (made (readQuery query) x); bytes-are = cc }
 
 -- A table that a build gives is faithful to the query that its bytes say, passes the table check, and reads back.
 module _ {query t : Bytes} {n : ℕ} (b : Built query t n) where
   pub built-faithful : Faithful (readQuery query) t
-  built-faithful =
-      let q = readQuery query in
-      subst (Faithful q) (sym (b .bytes-are))
-      (faithful-table q (construction q (nodes q)) (states q (nodes q)) (query-limited query (b .checked)) (states-known q (b .within)) (construction-tells q (b .within)))
+  built-faithful = subst (Faithful (readQuery query)) (sym (b .bytes-are)) (made-faithful (query-limited query (b .checked)) (b .made))
 
   pub built-passes : tableRefusal t ≡ passed
-  built-passes =
-      let q = readQuery query in
-      subst (λ k. tableRefusal k ≡ passed) (sym (b .bytes-are))
-      (table-passes q (construction q (nodes q)) (states q (nodes q)) (query-limited query (b .checked)) (states-known q (b .within)))
+  built-passes = subst (λ k. tableRefusal k ≡ passed) (sym (b .bytes-are)) (made-passes (query-limited query (b .checked)) (b .made))
 
   pub built-read-back : readTable t ≡ queryTable (readQuery query)
-  built-read-back =
-      let q = readQuery query in
-      ap readTable (b .bytes-are)
-      ∙ round-trip (queryTable q) (table-sized (construction q (nodes q)) (sizesOf q) (states q (nodes q)) (query-limited query (b .checked)) (states-known q (b .within)))
+  built-read-back = ap readTable (b .bytes-are) ∙ round-trip (b .contents) (made-sized (query-limited query (b .checked)) (b .made)) ∙ b .made .table-is
 
 -- Demand 3, one statement over the list: whatever the model's position and the state before, from a granted entry on.
 pub demand-three : (query : Bytes) (scratch output : ℕ) (t : Bytes) (n : ℕ) → outcome query scratch output ≡ built t n →
