@@ -8,20 +8,21 @@ use mathlib.Core.List.{List, [], _∷_}
 use lib.ListN.{length, take, drop, getD, length-take, length-drop, List·getD-eq-default}
 use lib.Seq.{getD-take, getD-drop, ext-getD}
 use Rattle.theory.specs.Tests.{Says, holds, fails}
+use Rattle.theory.specs.Limits.{bodyWidth}
 use Rattle.theory.specs.Query.{byteAt}
 use Rattle.theory.proofs.Reflect.{says-leb}
 use Rattle.orders.proofs.OrderLaws.{four}
 
 -- the four bytes from a place on, as many as are there
-pub four-at : (b : List ℕ) (at n : ℕ) → n ≡ min 4 (length b - at)
-    → take n (byteAt b at ∷ byteAt b (at + 1) ∷ byteAt b (at + 2) ∷ byteAt b (at + 3) ∷ []) ≡ take 4 (drop at b)
+pub four-at : (b : List ℕ) (at n : ℕ) → n ≡ min bodyWidth (length b - at)
+    → take n (byteAt b at ∷ byteAt b (at + 1) ∷ byteAt b (at + 2) ∷ byteAt b (at + 3) ∷ []) ≡ take bodyWidth (drop at b)
 four-at b at n e = simp (getD-drop, add-zero) at (four (drop at b) n (omega (arith, length-drop at b)))
 
 -- at most four bytes, read one by one, with 0 past their end
 abbrev pub padded : List ℕ → List ℕ
 padded l = getD l 0 0 ∷ getD l 1 0 ∷ getD l 2 0 ∷ getD l 3 0 ∷ []
 
-module _ (l : List ℕ) (short : length l ≤ 4) where
+module _ (l : List ℕ) (short : length l ≤ bodyWidth) where
   padded-at : (i : ℕ) → getD (padded l) i 0 ≡ getD l i 0
   padded-at zero = refl
   padded-at (suc zero) = refl

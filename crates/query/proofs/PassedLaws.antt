@@ -11,6 +11,7 @@ use lib.ListN.{length, take, drop, length-take, length-drop}
 use lib.Seq.{take-suc}
 use borrow.Author.Tests.{lt-ltb, le-ltb, ltb-false, leb-false}
 use Rattle.theory.specs.Tests.{pick, Says, holds, fails, Distinct, empty, also, every, repeats, upFrom}
+use Rattle.theory.specs.Limits.{maxLength, equalKind, bodyWidth}
 use Rattle.theory.specs.Orders.{sameOrder, fix, equal}
 use Rattle.theory.specs.Construction.{columnsOf}
 use Rattle.theory.specs.Refusals.{passed, firstRefusal, firstOf}
@@ -53,31 +54,31 @@ first-two (x ∷ []) h = absurd (not-suc-le-zero (le-of-suc-le-suc h))
 first-two (x ∷ y ∷ l) h = refl
 
 -- the columns of a rule are the used bytes
-rule-columns : (n kind : ℕ) (body : Bytes) → length body ≡ 4 → kind ≤ 4 → Columns n (take (usedBy kind) body) → Columns n (columnsOf (ruleOf kind body))
-rule-columns n kind body four h c = go (says-eqb kind 4) c
+rule-columns : (n kind : ℕ) (body : Bytes) → length body ≡ bodyWidth → kind ≤ equalKind → Columns n (take (usedBy kind) body) → Columns n (columnsOf (ruleOf kind body))
+rule-columns n kind body four h c = go (says-eqb kind equalKind) c
   where
-    go : {t : Bool} → Says (kind ≡ 4) t → Columns n (take (pick t 2 (suc kind)) body) → Columns n (columnsOf (pick t (equal (byteAt body 0) (byteAt body 1)) (fix (take kind body) (byteAt body kind))))
+    go : {t : Bool} → Says (kind ≡ equalKind) t → Columns n (take (pick t 2 (suc kind)) body) → Columns n (columnsOf (pick t (equal (byteAt body 0) (byteAt body 1)) (fix (take kind body) (byteAt body kind))))
     go (holds e) k = rw (first-two body (omega arith)) at k
     go (fails e) k = last-first (take kind body) (byteAt body kind) (rw (take-suc body kind 0 (omega arith)) at k)
 
 module _ (b : Bytes) (z : SizesFit b) (i : ℕ) where
-  pub body-length : i < itemCount b → length (bodyAt b i) ≡ 4
+  pub body-length : i < itemCount b → length (bodyAt b i) ≡ bodyWidth
   body-length h = simp (length-take, length-drop) (omega (arith, z .total))
 
   order-passed : i < orderCount b → itemRefusal b i ≡ passed → OrderFormed b i
   unfolding itemRefusal orderRefusal
   order-passed h e =
-      let s = refused-then (ltb 4 (headAt b i)) (rw (lt-ltb i (orderCount b) h) at e) (omega arith) in
-      let short = ltb-false 4 (headAt b i) (s .0) in
+      let s = refused-then (ltb maxLength (headAt b i)) (rw (lt-ltb i (orderCount b) h) at e) (omega arith) in
+      let short = ltb-false maxLength (headAt b i) (s .0) in
       record { short = short; long = length-take (headAt b i) (bodyAt b i) ∙ omega (arith, body-length (omega arith)); columns = body-passed (columnCount b) (headAt b i) (bodyAt b i) (s .1) }
 
   dependency-passed : orderCount b ≤ i → i < itemCount b → itemRefusal b i ≡ passed → DependencyFormed b i
   unfolding itemRefusal dependencyRefusal
   dependency-passed h l e =
       let kind = kindOf (headAt b i) in
-      let s = refused-then (ltb 4 kind) (rw (le-ltb i (orderCount b) h) at e) (omega arith) in
+      let s = refused-then (ltb equalKind kind) (rw (le-ltb i (orderCount b) h) at e) (omega arith) in
       let t = refused-then (leb (setCount b) (setOf (headAt b i))) (s .1) (omega arith) in
-      let small = ltb-false 4 kind (s .0) in
+      let small = ltb-false equalKind kind (s .0) in
       record {
         kind = small;
         set = leb-false (setCount b) (setOf (headAt b i)) (t .0);

@@ -6,6 +6,7 @@ use mathlib.Core.Path.{_≡_, sym, _∙_, ap}
 use mathlib.Core.List.{map, map-append, List·Memᴰ, Memᴰ·of-map}
 use lib.ListN.{length, getD}
 use Rattle.theory.specs.Tests.{Distinct, upFrom}
+use Rattle.theory.specs.Limits.{maxLength}
 use Rattle.theory.specs.Orders.{Order, Dependency, interesting}
 use Rattle.theory.specs.Construction.{columnsOf}
 use Rattle.theory.specs.Query.{Bytes, columnCount, producedCount, testedCount, setCount, dependencyCount, orderCount, orderAt, dependencyAt, readQuery}
@@ -45,7 +46,7 @@ module _ (b : Bytes) (p : Passed b) where
   pub orders-distinct : Distinct (interesting (readQuery b))
   orders-distinct = rw interesting-read (p .distinct)
 
-  pub order-columns : (o : Order) → List·Memᴰ o (interesting (readQuery b)) → (length o ≤ 4) × Columns (columnCount b) o
+  pub order-columns : (o : Order) → List·Memᴰ o (interesting (readQuery b)) → (length o ≤ maxLength) × Columns (columnCount b) o
   order-columns o m =
       let t = Memᴰ·of-map (orderAt b) (upFrom 0 (orderCount b)) (rw interesting-read at m) in
       let f = p .order (t .0) (omega (arith, member-upFrom 0 (orderCount b) (t .1))) in

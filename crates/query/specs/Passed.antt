@@ -5,6 +5,7 @@ use mathlib.Core.List.{List, map, List·Memᴰ}
 use lib.ListN.{length}
 use Rattle.theory.specs.Tests.{Distinct, upFrom}
 use Rattle.theory.specs.Construction.{columnsOf}
+use Rattle.theory.specs.Limits.{maxLength, equalKind}
 use Rattle.theory.proofs.QueryLaws.{SizesFit}
 use Rattle.theory.specs.Query.{Bytes, columnCount, setCount, orderCount, itemCount, headAt, bodyAt, orderAt, kindOf, setOf, ruleOf}
 
@@ -15,13 +16,13 @@ pub record Columns (n : ℕ) (l : List ℕ) : Type 0 where
 
 -- Item i is an order of at most 4 columns.
 pub record OrderFormed (b : Bytes) (i : ℕ) : Type 0 where
-  pub short : headAt b i ≤ 4
+  pub short : headAt b i ≤ maxLength
   pub long : length (orderAt b i) ≡ headAt b i
   pub columns : Columns (columnCount b) (orderAt b i)
 
 -- Item i is a dependency: a fix or an equal that belongs to a set of the query.
 pub record DependencyFormed (b : Bytes) (i : ℕ) : Type 0 where
-  pub kind : kindOf (headAt b i) ≤ 4
+  pub kind : kindOf (headAt b i) ≤ equalKind
   pub set : setOf (headAt b i) < setCount b
   pub columns : Columns (columnCount b) (columnsOf (ruleOf (kindOf (headAt b i)) (bodyAt b i)))
 

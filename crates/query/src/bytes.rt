@@ -1,16 +1,12 @@
 // Reading a query's bytes: the counts, the heads and the four bytes of each item. Items are counted from 0, the orders first.
+use byte_rows::byte;
+use numbers::limits;
 use orders::Order;
 ghost use mathlib.Core.Path.{_≡_};
 ghost use Prim.Native.Nat.{_-_, _≤_, min};
-ghost use Rattle.theory.specs.Query.{byteAt, orderCount, itemCount, headAt, bodyAt, orderAt};
+ghost use Rattle.theory.specs.Query.{orderCount, itemCount, headAt, bodyAt, orderAt};
+ghost use Rattle.theory.specs.Limits.{bodyWidth};
 ghost use Rattle.orders.specs.Orders.{OrderIs};
-
-// Byte i; 0 past the end.
-pub fn byte(query: &[u8], i: usize) -> u8
-    ensures { λ r. ⌜ r ≡ byteAt (now (query .entry)) i ⌝ }
-{
-    if i < query.len() { query[i] } else { 0 }
-}
 
 // The number of interesting orders, P + T.
 pub fn order_count(query: &[u8]) -> u16
@@ -30,24 +26,28 @@ pub fn item_count(query: &[u8]) -> u16
 pub fn head(query: &[u8], i: u16) -> u8
     ensures { λ r. ⌜ r ≡ headAt (now (query .entry)) i ⌝ }
 {
-    byte(query, 5 + i as usize)
+    byte(query, limits::QUERY_SIZES + i as usize)
 }
 
 // How many of the four bytes from `at` on are there.
 fn there(len: usize, at: usize) -> usize
-    ensures { λ r. ⌜ r ≡ min 4 (len - at) ⌝ }
+    ensures { λ r. ⌜ r ≡ min bodyWidth (len - at) ⌝ }
 {
     if len <= at {
         return 0;
     }
-    if len - at < 4 { len - at } else { 4 }
+    if len - at < limits::BODY_WIDTH {
+        len - at
+    } else {
+        limits::BODY_WIDTH
+    }
 }
 
 // The four bytes of item i, as many of them as are there.
 pub fn body(query: &[u8], i: u16) -> Order
     ensures { λ r. ⌜ OrderIs r (bodyAt (now (query .entry)) i) ⌝ }
 {
-    let at = 5 + item_count(query) as usize + i as usize * 4;
+    let at = limits::QUERY_SIZES + item_count(query) as usize + i as usize * limits::BODY_WIDTH;
     Order {
         columns: [
             byte(query, at),

@@ -1,6 +1,8 @@
 // The query reader: what a query's bytes say. Every function takes any bytes, in any number.
 pub mod bytes;
 
+use byte_rows::byte;
+use numbers::limits;
 use orders::Order;
 use orders::Rule;
 ghost use mathlib.Core.Path.{_≡_};
@@ -12,35 +14,35 @@ ghost use Rattle.orders.specs.Orders.{orderOf, OrderIs, ruleIs, dependencyIs};
 pub fn columns(query: &[u8]) -> u8
     ensures { λ r. ⌜ r ≡ columnCount (now (query .entry)) ⌝ }
 {
-    bytes::byte(query, 0)
+    byte(query, 0)
 }
 
 // The number of produced orders, P.
 pub fn produced(query: &[u8]) -> u8
     ensures { λ r. ⌜ r ≡ producedCount (now (query .entry)) ⌝ }
 {
-    bytes::byte(query, 1)
+    byte(query, 1)
 }
 
 // The number of tested orders, T.
 pub fn tested(query: &[u8]) -> u8
     ensures { λ r. ⌜ r ≡ testedCount (now (query .entry)) ⌝ }
 {
-    bytes::byte(query, 2)
+    byte(query, 2)
 }
 
 // The number of sets, S.
 pub fn sets(query: &[u8]) -> u8
     ensures { λ r. ⌜ r ≡ setCount (now (query .entry)) ⌝ }
 {
-    bytes::byte(query, 3)
+    byte(query, 3)
 }
 
 // The number of dependencies, D.
 pub fn dependencies(query: &[u8]) -> u8
     ensures { λ r. ⌜ r ≡ dependencyCount (now (query .entry)) ⌝ }
 {
-    bytes::byte(query, 4)
+    byte(query, 4)
 }
 
 // Interesting order i: the produced ones come first, then the tested ones.
@@ -56,7 +58,7 @@ fn rule(kind: u8, body: Order) -> Rule
 {
     let a = orders::column(body, 0);
     let b = orders::column(body, 1);
-    if kind == 4 {
+    if kind == limits::EQUAL_KIND {
         return Rule::Equal { a, b };
     }
     let c = orders::column(body, 2);
@@ -71,9 +73,9 @@ pub fn dependency(query: &[u8], i: u8) -> orders::Dependency
 {
     let at = bytes::order_count(query) + i as u16;
     let head = bytes::head(query, at);
-    let said = rule(head / 16, bytes::body(query, at));
+    let said = rule(head / limits::KIND_UNIT, bytes::body(query, at));
     orders::Dependency {
-        set: head % 16,
+        set: head % limits::KIND_UNIT,
         rule: said,
     }
 }

@@ -2,15 +2,16 @@
 use Prim.Native.Nat.{ℕ, _+_, _*_}
 use lib.Dec.{eqb, ltb}
 use Rattle.theory.specs.Tests.{pick}
+use Rattle.theory.specs.Limits.{maxColumns, maxProduced, maxTested, maxSets, maxDependencies, querySizes, itemWidth}
 use Rattle.theory.specs.Refusals.{passed, length-refused, size-refused}
 use Rattle.theory.specs.Query.{outside}
 
 unfoldable pub sizesOf : (len n p t s d : ℕ) → ℕ
 sizesOf len n p t s d =
-    pick (ltb len 5) length-refused
-    (pick (outside 1 12 n) size-refused
-    (pick (outside 1 8 p) size-refused
-    (pick (ltb 8 t) size-refused
-    (pick (ltb 8 s) size-refused
-    (pick (ltb 16 d) size-refused
-    (pick (eqb len (5 + 5 * (p + t + d))) passed length-refused))))))
+    pick (ltb len querySizes) length-refused
+    (pick (outside 1 maxColumns n) size-refused
+    (pick (outside 1 maxProduced p) size-refused
+    (pick (ltb maxTested t) size-refused
+    (pick (ltb maxSets s) size-refused
+    (pick (ltb maxDependencies d) size-refused
+    (pick (eqb len (querySizes + itemWidth * (p + t + d))) passed length-refused))))))

@@ -1,4 +1,7 @@
 // Refusals 3, 4, 5: the items one by one, each for its form, its columns and a repeat.
+use byte_rows::byte;
+use numbers::limits;
+use numbers::refusals;
 use orders::Order;
 use query::bytes;
 ghost use mathlib.Core.Path.{_≡_};
@@ -6,17 +9,18 @@ ghost use lib.Dec.{eqb, ltb};
 ghost use lib.ListN.{drop};
 ghost use Rattle.theory.specs.Tests.{every, repeats};
 ghost use Rattle.theory.specs.Refusals.{firstOf};
+ghost use Rattle.theory.specs.Limits.{unusedByte};
 ghost use Rattle.theory.specs.Query.{itemCount, usedBy, bodyRefusal, orderRefusal, dependencyRefusal, itemRefusal};
 ghost use Rattle.orders.specs.Orders.{orderOf};
 
 // Whether the bytes from place `used` on are all 255.
 fn clear_from(body: Order, used: usize) -> bool
-    ensures { λ r. ⌜ r ≡ every (λ c. eqb c 255) (drop used (orderOf body)) ⌝ }
+    ensures { λ r. ⌜ r ≡ every (λ c. eqb c unusedByte) (drop used (orderOf body)) ⌝ }
 {
     let n = orders::length(body);
     let mut i = used;
     while i < n {
-        if orders::column(body, i) != 255 {
+        if orders::column(body, i) != limits::UNUSED_BYTE {
             return false;
         }
         i += 1;
@@ -60,20 +64,24 @@ fn body_refusal(columns: u8, used: usize, body: Order) -> u8
 {
     let named = orders::front(body, used);
     if !clear_from(body, used) {
-        return 3;
+        return refusals::ITEM;
     }
     if !below(named, columns) {
-        return 4;
+        return refusals::COLUMN;
     }
-    if repeated(named) { 5 } else { 0 }
+    if repeated(named) {
+        refusals::REPEAT
+    } else {
+        refusals::PASSED
+    }
 }
 
 // An order, by its head and its four bytes.
 fn order_refusal(columns: u8, head: u8, body: Order) -> u8
     ensures { λ r. ⌜ r ≡ orderRefusal columns head (orderOf body) ⌝ }
 {
-    if 4 < head {
-        3
+    if limits::MAX_LENGTH < head {
+        refusals::ITEM
     } else {
         body_refusal(columns, head as usize, body)
     }
@@ -83,19 +91,23 @@ fn order_refusal(columns: u8, head: u8, body: Order) -> u8
 fn used_by(kind: u8) -> usize
     ensures { λ r. ⌜ r ≡ usedBy kind ⌝ }
 {
-    if kind == 4 { 2 } else { kind as usize + 1 }
+    if kind == limits::EQUAL_KIND {
+        2
+    } else {
+        kind as usize + 1
+    }
 }
 
 // A dependency, by its head and its four bytes.
 fn dependency_refusal(columns: u8, sets: u8, head: u8, body: Order) -> u8
     ensures { λ r. ⌜ r ≡ dependencyRefusal columns sets head (orderOf body) ⌝ }
 {
-    let kind = head / 16;
-    if 4 < kind {
-        return 3;
+    let kind = head / limits::KIND_UNIT;
+    if limits::EQUAL_KIND < kind {
+        return refusals::ITEM;
     }
-    if sets <= head % 16 {
-        return 3;
+    if sets <= head % limits::KIND_UNIT {
+        return refusals::ITEM;
     }
     body_refusal(columns, used_by(kind), body)
 }
@@ -104,13 +116,13 @@ fn dependency_refusal(columns: u8, sets: u8, head: u8, body: Order) -> u8
 fn item_refusal(query: &[u8], i: u16) -> u8
     ensures { λ r. ⌜ r ≡ itemRefusal (now (query .entry)) i ⌝ }
 {
-    let columns = bytes::byte(query, 0);
+    let columns = byte(query, 0);
     let head = bytes::head(query, i);
     let body = bytes::body(query, i);
     if i < bytes::order_count(query) {
         return order_refusal(columns, head, body);
     }
-    dependency_refusal(columns, bytes::byte(query, 3), head, body)
+    dependency_refusal(columns, byte(query, 3), head, body)
 }
 
 // The first item that is refused, if one is.
@@ -121,10 +133,10 @@ pub fn items_refusal(query: &[u8]) -> u8
     let mut i: u16 = 0;
     while i < n {
         let refusal = item_refusal(query, i);
-        if refusal != 0 {
+        if refusal != refusals::PASSED {
             return refusal;
         }
         i += 1;
     }
-    0
+    refusals::PASSED
 }

@@ -1,4 +1,5 @@
 // Refusal 6: two equal interesting orders.
+use numbers::refusals;
 use query::bytes;
 ghost use mathlib.Core.Path.{_≡_};
 ghost use mathlib.Core.List.{map};
@@ -29,9 +30,9 @@ pub fn twin_refusal(query: &[u8]) -> u8
     let mut i: u16 = 0;
     while i < n {
         if seen_before(query, i) {
-            return 6;
+            return refusals::TWIN;
         }
         i += 1;
     }
-    0
+    refusals::PASSED
 }

@@ -1,6 +1,6 @@
 -- A table's form: the code's way to the refusal, and what is known of a table that passes.
 use Prim.Native.Nat.{ℕ, suc, _*_, _<_, _≤_}
-use native.Mathlib.Nat.{mul-le-mul}
+use native.Mathlib.Nat.{mul-le-mul, le-of-suc-le-suc}
 use native.Mathlib.Omega.{arith}
 use mathlib.Core.Path.{_≡_, refl}
 use mathlib.Core.Bool.{Bool, true, false}
@@ -10,15 +10,20 @@ use lib.ListN.{length}
 use borrow.Author.Tests.{le-ltb, ltb-false, eqb-true, eq-eqb}
 use Rattle.theory.specs.Tests.{pick}
 use Rattle.theory.specs.Query.{Bytes, outside}
+use Rattle.theory.specs.Limits.{maxStates, maxProduced, maxTested, maxSets, tableSizes, longestTable}
 use Rattle.theory.specs.Refusals.{passed}
 use Rattle.theory.specs.Table.{statesIn, producedIn, testedIn, setsIn, successorsBase, tableLength, formRefusal, startsRefusal, successorsRefusal}
 use Rattle.theory.proofs.Reflect.{says-false, says-or, says-ltb}
 use Rattle.table.specs.Form.{Formed, sizesRefusal, runRefusal}
 
+-- the product of two bytes
+pub byte-product : (a b : ℕ) → a < 256 → b < 256 → a * b ≤ 65025
+byte-product a b h k = mul-le-mul (le-of-suc-le-suc h) (le-of-suc-le-suc k)
+
 -- past the first check, the form is decided by the sizes and the number of bytes
-pub form-sizes : (t : Bytes) → 4 ≤ length t → sizesRefusal (statesIn t) (producedIn t) (testedIn t) (setsIn t) (length t) ≡ formRefusal t
+pub form-sizes : (t : Bytes) → tableSizes ≤ length t → sizesRefusal (statesIn t) (producedIn t) (testedIn t) (setsIn t) (length t) ≡ formRefusal t
 unfolding formRefusal sizesRefusal
-form-sizes t h = rw (le-ltb (length t) 4 h)
+form-sizes t h = rw (le-ltb (length t) tableSizes h)
 
 -- a check that comes before others passes, and so do they
 past : (refused : Bool) (r rest : ℕ) → pick refused (suc r) rest ≡ passed → (refused ≡ false) × (rest ≡ passed)
@@ -42,19 +47,19 @@ within low high n e =
 pub formed : (t : Bytes) → formRefusal t ≡ passed → Formed t
 unfolding formRefusal
 formed t e =
-    let (l, e₁) = past (ltb (length t) 4) 0 _ e in
-    let (q, e₂) = past (outside 1 128 (statesIn t)) 1 _ e₁ in
-    let (p, e₃) = past (outside 1 8 (producedIn t)) 1 _ e₂ in
-    let (n, e₄) = past (ltb 8 (testedIn t)) 1 _ e₃ in
-    let (s, e₅) = past (ltb 8 (setsIn t)) 1 _ e₄ in
+    let (l, e₁) = past (ltb (length t) tableSizes) 0 _ e in
+    let (q, e₂) = past (outside 1 maxStates (statesIn t)) 1 _ e₁ in
+    let (p, e₃) = past (outside 1 maxProduced (producedIn t)) 1 _ e₂ in
+    let (n, e₄) = past (ltb maxTested (testedIn t)) 1 _ e₃ in
+    let (s, e₅) = past (ltb maxSets (setsIn t)) 1 _ e₄ in
     record {
-      long = ltb-false (length t) 4 l;
-      some-states = within 1 128 (statesIn t) q .0;
-      few-states = within 1 128 (statesIn t) q .1;
-      some-produced = within 1 8 (producedIn t) p .0;
-      few-produced = within 1 8 (producedIn t) p .1;
-      few-tested = ltb-false 8 (testedIn t) n;
-      few-sets = ltb-false 8 (setsIn t) s;
+      long = ltb-false (length t) tableSizes l;
+      some-states = within 1 maxStates (statesIn t) q .0;
+      few-states = within 1 maxStates (statesIn t) q .1;
+      some-produced = within 1 maxProduced (producedIn t) p .0;
+      few-produced = within 1 maxProduced (producedIn t) p .1;
+      few-tested = ltb-false maxTested (testedIn t) n;
+      few-sets = ltb-false maxSets (setsIn t) s;
       total = eqb-true (length t) (tableLength t) (met _ 0 e₅);
     }
 
@@ -65,12 +70,12 @@ form-passed {t} f =
     simp (le-ltb, f .long, f .some-states, f .few-states, f .some-produced, f .few-produced, f .few-tested, f .few-sets, eq-eqb (length t) (tableLength t) (f .total))
 
 -- no table is longer than the longest
-pub formed-short : {t : Bytes} → Formed t → length t ≤ 1292
+pub formed-short : {t : Bytes} → Formed t → length t ≤ longestTable
 formed-short {t} f =
     omega (arith, f .total, f .few-produced, f .few-states, mul-le-mul (f .few-states) (f .few-sets))
 
 -- the starts and the successors are two runs of state numbers
-pub starts-run : (t : Bytes) → runRefusal t 4 (producedIn t) ≡ startsRefusal t
+pub starts-run : (t : Bytes) → runRefusal t tableSizes (producedIn t) ≡ startsRefusal t
 unfolding runRefusal startsRefusal
 starts-run t = refl
 

@@ -4,28 +4,29 @@ use mathlib.Core.Path.{_≡_}
 use lib.Dec.{eqb, ltb}
 use lib.ListN.{length}
 use Rattle.theory.specs.Tests.{pick}
+use Rattle.theory.specs.Limits.{maxStates, maxProduced, maxTested, maxSets, tableSizes, heldWidth}
 use Rattle.theory.specs.Refusals.{passed, length-refused, size-refused, firstOf}
 use Rattle.theory.specs.Query.{Bytes, byteAt, outside}
 use Rattle.theory.specs.Table.{statesIn, producedIn, testedIn, setsIn, tableLength, stateRefusal}
 
 -- The sizes are there, each within its limits, and the bytes are as many as they imply.
 pub record Formed (t : Bytes) : Type 0 where
-  pub long : 4 ≤ length t
+  pub long : tableSizes ≤ length t
   pub some-states : 1 ≤ statesIn t
-  pub few-states : statesIn t ≤ 128
+  pub few-states : statesIn t ≤ maxStates
   pub some-produced : 1 ≤ producedIn t
-  pub few-produced : producedIn t ≤ 8
-  pub few-tested : testedIn t ≤ 8
-  pub few-sets : setsIn t ≤ 8
+  pub few-produced : producedIn t ≤ maxProduced
+  pub few-tested : testedIn t ≤ maxTested
+  pub few-sets : setsIn t ≤ maxSets
   pub total : length t ≡ tableLength t
 
 -- The checks 2 and 1 on the sizes Q, P, T, S and the number of bytes.
 unfoldable pub sizesRefusal : ℕ → ℕ → ℕ → ℕ → ℕ → ℕ
 sizesRefusal q p t s total =
-    pick (outside 1 128 q) size-refused
-    (pick (outside 1 8 p) size-refused
-    (pick (ltb 8 t) size-refused
-    (pick (ltb 8 s) size-refused (pick (eqb total (4 + p + q * s + q * 2)) passed length-refused))))
+    pick (outside 1 maxStates q) size-refused
+    (pick (outside 1 maxProduced p) size-refused
+    (pick (ltb maxTested t) size-refused
+    (pick (ltb maxSets s) size-refused (pick (eqb total (tableSizes + p + q * s + q * heldWidth)) passed length-refused))))
 
 -- Refusal 11 of the state number at a place behind `base`, and of n of them: the starts and the successors are two such runs.
 abbrev pub entryRefusal : Bytes → ℕ → ℕ → ℕ

@@ -2,29 +2,30 @@
 ghost use mathlib.Core.Path.{_≡_};
 ghost use Prim.Native.Nat.{_+_, _*_, _^_, _≤_, _<_};
 ghost use lib.ListN.{length};
+ghost use Rattle.theory.specs.Limits.{maxProduced, maxTested};
 ghost use Rattle.theory.specs.Refusals.{firstOf};
 ghost use Rattle.theory.specs.Query.{byteAt};
 ghost use Rattle.theory.specs.Table.{statesIn, tableRefusal, stateRefusal, startsRefusal, successorsRefusal, heldRefusal};
 ghost use Rattle.table.specs.Form.{Formed, runRefusal};
-use crate::PASSED;
-use crate::ROW_REFUSED;
 use crate::rows::held_number;
-use crate::sizes::byte_at;
 use crate::sizes::form;
 use crate::sizes::produced;
 use crate::sizes::sets;
 use crate::sizes::states;
 use crate::sizes::successors_base;
 use crate::sizes::tested;
+use byte_rows::byte;
+use numbers::limits;
+use numbers::refusals;
 
 // The check 11 of the state number at a place.
 fn state_refusal(table: &[u8], at: usize) -> u8
     ensures { λ r. ⌜ r ≡ stateRefusal (now (table .entry)) (byteAt (now (table .entry)) at) ⌝ }
 {
-    if byte_at(table, at) < states(table) {
-        PASSED
+    if (byte(table, at) as usize) < states(table) {
+        refusals::PASSED
     } else {
-        ROW_REFUSED
+        refusals::ROW
     }
 }
 
@@ -36,12 +37,12 @@ fn run_refusal(table: &[u8], base: usize, n: usize) -> u8
     let mut i = 0;
     while i < n {
         let refusal = state_refusal(table, base + i);
-        if refusal != PASSED {
+        if refusal != refusals::PASSED {
             return refusal;
         }
         i += 1;
     }
-    PASSED
+    refusals::PASSED
 }
 
 // The check 11 of all starts.
@@ -49,7 +50,7 @@ fn starts_refusal(table: &[u8]) -> u8
     requires { ⌜ Formed (now table) ⌝ }
     ensures { λ r. ⌜ r ≡ startsRefusal (now (table .entry)) ⌝ }
 {
-    run_refusal(table, 4, produced(table))
+    run_refusal(table, limits::TABLE_SIZES, produced(table))
 }
 
 // The check 11 of all successors.
@@ -62,7 +63,7 @@ fn successors_refusal(table: &[u8]) -> u8
 
 // So many bits make numbers below this one.
 fn power(n: usize) -> usize
-    requires { ⌜ n ≤ 16 ⌝ }
+    requires { ⌜ n ≤ maxProduced + maxTested ⌝ }
     ensures { λ r. ⌜ r ≡ 2 ^ n ⌝ }
 {
     1usize << n
@@ -74,9 +75,9 @@ fn held_refusal(table: &[u8], state: usize) -> u8
     ensures { λ r. ⌜ r ≡ heldRefusal (now (table .entry)) state ⌝ }
 {
     if held_number(table, state) < power(produced(table) + tested(table)) {
-        PASSED
+        refusals::PASSED
     } else {
-        ROW_REFUSED
+        refusals::ROW
     }
 }
 
@@ -89,12 +90,12 @@ fn held_rows_refusal(table: &[u8]) -> u8
     let mut state = 0;
     while state < q {
         let refusal = held_refusal(table, state);
-        if refusal != PASSED {
+        if refusal != refusals::PASSED {
             return refusal;
         }
         state += 1;
     }
-    PASSED
+    refusals::PASSED
 }
 
 // The check 11 of a table whose form has passed.
@@ -103,11 +104,11 @@ fn rows_refusal(table: &[u8]) -> u8
     ensures { λ r. ⌜ r ≡ tableRefusal (now (table .entry)) ⌝ }
 {
     let starts = starts_refusal(table);
-    if starts != PASSED {
+    if starts != refusals::PASSED {
         return starts;
     }
     let successors = successors_refusal(table);
-    if successors != PASSED {
+    if successors != refusals::PASSED {
         return successors;
     }
     held_rows_refusal(table)
@@ -118,7 +119,7 @@ pub fn check(table: &[u8]) -> u8
     ensures { λ r. ⌜ r ≡ tableRefusal (now (table .entry)) ⌝ }
 {
     let refusal = form(table);
-    if refusal != PASSED {
+    if refusal != refusals::PASSED {
         return refusal;
     }
     rows_refusal(table)

@@ -1,4 +1,5 @@
-// A table's bytes: its sizes, the check of its form and of its rows, the row reader, and the writers. Any bytes of any length may be lent.
+// A table's bytes: its sizes, the check of its form and of its rows, a state's rows, and the writer of the sizes. The checks and the sizes take any bytes of any length;
+// what reads a state's rows requires a form that has passed and a state of the table, and what writes requires room. None of those is an entry point.
 mod checks;
 mod rows;
 mod sizes;
@@ -6,9 +7,7 @@ mod sizes;
 pub use checks::check;
 pub use rows::held;
 pub use rows::held_number;
-pub use rows::row;
 pub use rows::successors;
-pub use rows::write_row;
 pub use rows::write_sizes;
 pub use sizes::form;
 pub use sizes::produced;
@@ -22,14 +21,3 @@ pub struct OrderHandle(pub u8);
 pub struct SetHandle(pub u8);
 
 pub struct StateNumber(pub u8);
-
-// The numbers of the refusal list that a table can meet; 0 stands for none.
-pub const PASSED: u8 = 0;
-
-pub const LENGTH_REFUSED: u8 = 1;
-
-pub const SIZE_REFUSED: u8 = 2;
-
-pub const HANDLE_REFUSED: u8 = 10;
-
-pub const ROW_REFUSED: u8 = 11;

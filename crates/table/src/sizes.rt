@@ -1,98 +1,84 @@
 // The sizes of a table, and the check of its form.
 ghost use mathlib.Core.Path.{_≡_};
 ghost use Prim.Native.Nat.{_+_, _*_, _<_};
-ghost use Rattle.theory.specs.Query.{byteAt};
+ghost use Rattle.theory.specs.Limits.{tableSizes};
 ghost use Rattle.theory.specs.Table.{statesIn, producedIn, testedIn, setsIn, successorsBase, heldBase, formRefusal};
 ghost use Rattle.table.specs.Form.{sizesRefusal};
-use crate::LENGTH_REFUSED;
-use crate::PASSED;
-use crate::SIZE_REFUSED;
-
-pub fn wide(b: u8) -> usize
-    ensures { λ r. ⌜ (r ≡ b) × (r < 256) ⌝ }
-{
-    b as usize
-}
-
-// The byte at a place, 0 past the end.
-pub fn byte_at(table: &[u8], i: usize) -> usize
-    ensures { λ r. ⌜ (r ≡ byteAt (now (table .entry)) i) × (r < 256) ⌝ }
-{
-    if i < table.len() { wide(table[i]) } else { 0 }
-}
+use byte_rows::byte;
+use numbers::limits;
+use numbers::refusals;
 
 // The sizes Q, P, T, S.
 pub fn states(table: &[u8]) -> usize
     ensures { λ r. ⌜ (r ≡ statesIn (now (table .entry))) × (r < 256) ⌝ }
 {
-    byte_at(table, 0)
+    byte(table, 0) as usize
 }
 
 pub fn produced(table: &[u8]) -> usize
     ensures { λ r. ⌜ (r ≡ producedIn (now (table .entry))) × (r < 256) ⌝ }
 {
-    byte_at(table, 1)
+    byte(table, 1) as usize
 }
 
 pub fn tested(table: &[u8]) -> usize
     ensures { λ r. ⌜ (r ≡ testedIn (now (table .entry))) × (r < 256) ⌝ }
 {
-    byte_at(table, 2)
+    byte(table, 2) as usize
 }
 
 pub fn sets(table: &[u8]) -> usize
     ensures { λ r. ⌜ (r ≡ setsIn (now (table .entry))) × (r < 256) ⌝ }
 {
-    byte_at(table, 3)
+    byte(table, 3) as usize
 }
 
 // Where the successors begin, and where the held bytes do.
 pub fn successors_base(table: &[u8]) -> usize
     ensures { λ r. ⌜ (r ≡ successorsBase (now (table .entry))) × (r < 260) ⌝ }
 {
-    4 + produced(table)
+    limits::TABLE_SIZES + produced(table)
 }
 
 pub fn held_base(table: &[u8]) -> usize
     ensures { λ r. ⌜ (r ≡ heldBase (now (table .entry))) × (r < 65536) ⌝ }
 {
-    past_successors(states(table), produced(table), sets(table))
+    past_successors(byte(table, 0), byte(table, 1), byte(table, 3))
 }
 
-// Sizes, starts and successors take so many bytes. The sizes are bytes: every caller has read them from a table or passed their limits.
-fn past_successors(q: usize, p: usize, s: usize) -> usize
-    requires { ⌜ (q < 256) × (p < 256) × (s < 256) ⌝ }
-    ensures { λ r. ⌜ (r ≡ 4 + p + q * s) × (r < 65536) ⌝ }
+// Sizes, starts and successors take so many bytes.
+fn past_successors(q: u8, p: u8, s: u8) -> usize
+    ensures { λ r. ⌜ (r ≡ tableSizes + p + q * s) × (r < 65536) ⌝ }
 {
-    4 + p + q * s
+    limits::TABLE_SIZES + p as usize + q as usize * s as usize
 }
 
 // The checks 2 and 1 on the sizes and the number of bytes: a size outside its limits; a total other than the sizes imply.
-fn sizes_refusal(q: usize, p: usize, t: usize, s: usize, total: usize) -> u8
+fn sizes_refusal(q: u8, p: u8, t: u8, s: u8, total: usize) -> u8
     ensures { λ r. ⌜ r ≡ sizesRefusal q p t s total ⌝ }
 {
     if q < 1 {
-        return SIZE_REFUSED;
+        return refusals::SIZE;
     }
-    if 128 < q {
-        return SIZE_REFUSED;
+    if limits::MAX_STATES < q as usize {
+        return refusals::SIZE;
     }
     if p < 1 {
-        return SIZE_REFUSED;
+        return refusals::SIZE;
     }
-    if 8 < p {
-        return SIZE_REFUSED;
+    if limits::MAX_PRODUCED < p {
+        return refusals::SIZE;
     }
-    if 8 < t {
-        return SIZE_REFUSED;
+    if limits::MAX_TESTED < t {
+        return refusals::SIZE;
     }
-    if 8 < s {
-        return SIZE_REFUSED;
+    if limits::MAX_SETS < s {
+        return refusals::SIZE;
     }
-    if total == past_successors(q, p, s) + q * 2 {
-        PASSED
+    if total == past_successors(q, p, s) + q as usize * limits::HELD_WIDTH {
+        refusals::PASSED
     } else {
-        LENGTH_REFUSED
+        refusals::LENGTH
     }
 }
 
@@ -100,14 +86,14 @@ fn sizes_refusal(q: usize, p: usize, t: usize, s: usize, total: usize) -> u8
 pub fn form(table: &[u8]) -> u8
     ensures { λ r. ⌜ r ≡ formRefusal (now (table .entry)) ⌝ }
 {
-    if table.len() < 4 {
-        return LENGTH_REFUSED;
+    if table.len() < limits::TABLE_SIZES {
+        return refusals::LENGTH;
     }
     sizes_refusal(
-        states(table),
-        produced(table),
-        tested(table),
-        sets(table),
+        byte(table, 0),
+        byte(table, 1),
+        byte(table, 2),
+        byte(table, 3),
         table.len(),
     )
 }

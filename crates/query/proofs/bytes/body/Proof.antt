@@ -3,6 +3,7 @@ use Prim.Native.Nat.{_+_, _*_}
 use native.Mathlib.Omega.{arith}
 use denote.Ref.{now}
 use borrow.Author.Needs.{needs}
+use Rattle.theory.specs.Limits.{querySizes, bodyWidth}
 use Rattle.query.proofs.Bodies.{four-at}
 use Rattle.query.proofs.bytes.body.Statement.{statement}
 use Rattle.query.proofs.bytes.body.Tie as tie
@@ -48,7 +49,7 @@ there-requires c κs = search needs
 
 returns : tie.Need-returns
 returns c = let a = c .before .before .before .before .before .before .before .args in
-    let at = 5 + c .before .before .before .before .before .item-count .result + a .i * 4 in
+    let at = querySizes + c .before .before .before .before .before .item-count .result + a .i * bodyWidth in
     record { order = cc (four-at (now (a .query)) at (c .there .result) (omega arith)); short = omega arith }
 
 pub body-spec : {M : Type 1} → statement M

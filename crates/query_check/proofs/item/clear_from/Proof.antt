@@ -6,6 +6,7 @@ use lib.Dec.{eqb}
 use lib.ListN.{drop, getD}
 use borrow.Author.Tests.{eq-eqb, ne-eqb}
 use borrow.Author.Needs.{needs}
+use Rattle.theory.specs.Limits.{unusedByte}
 use Rattle.theory.specs.Tests.{every}
 use Rattle.orders.specs.Orders.{orderOf}
 use Rattle.query.proofs.Searches.{every-more, every-fails, every-end}
@@ -13,7 +14,7 @@ use Rattle.query_check.proofs.item.clear_from.Statement.{statement}
 use Rattle.query_check.proofs.item.clear_from.Tie as tie
 
 abbrev Inv-loop : tie.InvT-loop
-Inv-loop body used n i₀ i = every (λ x. eqb x 255) (drop used (orderOf body)) ≡ every (λ x. eqb x 255) (drop i (orderOf body))
+Inv-loop body used n i₀ i = every (λ x. eqb x unusedByte) (drop used (orderOf body)) ≡ every (λ x. eqb x unusedByte) (drop i (orderOf body))
 
 abbrev μ-loop : tie.MeasureT-loop
 μ-loop body used n i₀ i = n - i
@@ -29,7 +30,7 @@ column-requires c κs = search needs
 
 returns : tie.Need-returns Inv-loop μ-loop
 returns c = let a = c .before .before .before .before .before .args in let l = orderOf (a .body) in let i = c .before .before .before .loop .i in
-    sym (c .before .before .before .loop .inv ∙ every-fails (λ x. eqb x 255) l i (omega arith) (ne-eqb (getD l i 0) 255 (λ e. c .if1 .taken (cc))))
+    sym (c .before .before .before .loop .inv ∙ every-fails (λ x. eqb x unusedByte) l i (omega arith) (ne-eqb (getD l i 0) unusedByte (λ e. c .if1 .taken (cc))))
 
 add-i : tie.Need-add-i Inv-loop μ-loop
 add-i c = search needs
@@ -39,11 +40,11 @@ loop-less c = search needs
 
 loop-again : tie.Need-loop-again Inv-loop μ-loop
 loop-again c = let a = c .before .before .before .before .before .args in let l = orderOf (a .body) in let i = c .before .before .before .loop .i in
-    c .before .before .before .loop .inv ∙ every-more (λ x. eqb x 255) l i (omega arith) (eq-eqb (getD l i 0) 255 (cc))
+    c .before .before .before .loop .inv ∙ every-more (λ x. eqb x unusedByte) l i (omega arith) (eq-eqb (getD l i 0) unusedByte (cc))
 
 returns-2 : tie.Need-returns-2 Inv-loop μ-loop
 returns-2 c = let a = c .before .before .before .args in
-    sym (c .before .loop .inv ∙ every-end (λ x. eqb x 255) (orderOf (a .body)) (c .before .loop .i) (omega arith))
+    sym (c .before .loop .inv ∙ every-end (λ x. eqb x unusedByte) (orderOf (a .body)) (c .before .loop .i) (omega arith))
 
 pub clear-from-spec : {M : Type 1} → statement M
 clear-from-spec =

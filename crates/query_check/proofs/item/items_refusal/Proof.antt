@@ -4,14 +4,14 @@ use native.Mathlib.Omega.{arith}
 use mathlib.Core.Path.{_≡_, refl, sym}
 use denote.Ref.{now}
 use borrow.Author.Needs.{needs}
-use Rattle.theory.specs.Refusals.{firstOf}
+use Rattle.theory.specs.Refusals.{passed, firstOf}
 use Rattle.theory.specs.Query.{itemCount, itemRefusal}
 use Rattle.theory.proofs.RefusalLaws.{first-more, first-found}
 use Rattle.query_check.proofs.item.items_refusal.Statement.{statement}
 use Rattle.query_check.proofs.item.items_refusal.Tie as tie
 
 abbrev Inv-loop : tie.InvT-loop
-Inv-loop query n i₀ i = (i ≤ n) × (firstOf (itemRefusal query) i ≡ 0)
+Inv-loop query n i₀ i = (i ≤ n) × (firstOf (itemRefusal query) i ≡ passed)
 
 abbrev μ-loop : tie.MeasureT-loop
 μ-loop query n i₀ i = n - i

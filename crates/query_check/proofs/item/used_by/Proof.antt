@@ -2,6 +2,7 @@
 use native.Mathlib.Numerals.{add-one}
 use borrow.Author.Tests.{ne-eqb}
 use borrow.Author.Needs.{needs}
+use Rattle.theory.specs.Limits.{equalKind}
 use Rattle.theory.proofs.Picks.{picks, pick-no}
 use Rattle.query_check.proofs.item.used_by.Statement.{statement}
 use Rattle.query_check.proofs.item.used_by.Tie as tie
@@ -13,7 +14,7 @@ returns : tie.Need-returns
 returns c = search picks
 
 returns-2 : tie.Need-returns-2
-returns-2 c = let a = c .before .args in pick-no _ (ne-eqb (a .kind) 4 (c .if1 .left)) (add-one (a .kind))
+returns-2 c = let a = c .before .args in pick-no _ (ne-eqb (a .kind) equalKind (c .if1 .left)) (add-one (a .kind))
 
 pub used-by-spec : {M : Type 1} → statement M
 used-by-spec = tie.close (tie.spec add-result returns returns-2)

@@ -2,8 +2,7 @@
 use native.Mathlib.Omega.{arith}
 use denote.Ref.{now}
 use borrow.Author.Needs.{needs}
-use Rattle.table.proofs.FormLaws.{successors-run}
-use Rattle.table.proofs.RowLaws.{byte-product}
+use Rattle.table.proofs.FormLaws.{byte-product, successors-run}
 use Rattle.table.proofs.checks.successors_refusal.Statement.{statement}
 use Rattle.table.proofs.checks.successors_refusal.Tie as tie
 

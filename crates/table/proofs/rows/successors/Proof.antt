@@ -1,7 +1,7 @@
 -- `table::rows::successors` meets its contract: a state's row ends where the successors end, or before.
 use native.Mathlib.Omega.{arith}
 use borrow.Author.Needs.{needs}
-use Rattle.table.proofs.RowLaws.{row-fits}
+use Rattle.byte_rows.proofs.RowLaws.{row-fits}
 use Rattle.table.proofs.rows.successors.Statement.{statement}
 use Rattle.table.proofs.rows.successors.Tie as tie
 

@@ -2,7 +2,7 @@
 use native.Mathlib.Omega.{arith}
 use mathlib.Core.Path.{refl}
 use borrow.Author.Needs.{needs}
-use Rattle.table.proofs.RowLaws.{byte-product}
+use Rattle.table.proofs.FormLaws.{byte-product}
 use Rattle.table.proofs.sizes.past_successors.Statement.{statement}
 use Rattle.table.proofs.sizes.past_successors.Tie as tie
 
@@ -10,13 +10,13 @@ add-result : tie.Need-add-result
 add-result c = search needs
 
 mul-result : tie.Need-mul-result
-mul-result c = omega (arith, byte-product (c .args .q) (c .args .s) (c .pre .0) (c .pre .2))
+mul-result c = omega (arith, byte-product (c .args .q) (c .args .s) (omega arith) (omega arith))
 
 add-result-2 : tie.Need-add-result-2
-add-result-2 c = omega (arith, byte-product (c .args .q) (c .args .s) (c .pre .0) (c .pre .2))
+add-result-2 c = omega (arith, byte-product (c .args .q) (c .args .s) (omega arith) (omega arith))
 
 returns : tie.Need-returns
-returns c = (refl, omega (arith, byte-product (c .args .q) (c .args .s) (c .pre .0) (c .pre .2)))
+returns c = (refl, omega (arith, byte-product (c .args .q) (c .args .s) (omega arith) (omega arith)))
 
 pub past-successors-spec : {M : Type 1} → statement M
 past-successors-spec = tie.close (tie.spec add-result mul-result add-result-2 returns)

@@ -1,11 +1,11 @@
--- `query::bytes::byte` meets its contract: past the end there is none.
+-- `byte_rows::byte` meets its contract: past the end there is none.
 use native.Mathlib.Omega.{arith}
 use mathlib.Core.Path.{sym}
 use lib.ListN.{List·getD-eq-default}
 use denote.Ref.{now}
 use borrow.Author.Needs.{needs}
-use Rattle.query.proofs.bytes.byte.Statement.{statement}
-use Rattle.query.proofs.bytes.byte.Tie as tie
+use Rattle.byte_rows.proofs.byte.Statement.{statement}
+use Rattle.byte_rows.proofs.byte.Tie as tie
 
 shared-slice-read-result : tie.Need-shared-slice-read-result
 shared-slice-read-result c = search needs
@@ -14,7 +14,7 @@ returns : tie.Need-returns
 returns c = search needs
 
 returns-2 : tie.Need-returns-2
-returns-2 c = sym (List·getD-eq-default (now (c .before .args .query)) 0 (omega arith))
+returns-2 c = sym (List·getD-eq-default (now (c .before .args .bytes)) 0 (omega arith))
 
 pub byte-spec : {M : Type 1} → statement M
 byte-spec = tie.close (tie.spec shared-slice-read-result returns returns-2)

@@ -1,4 +1,4 @@
--- `table::rows::write_row` meets its contract. The loop's invariant: the output is the one lent with the row's first bytes put in.
+-- `byte_rows::copy` meets its contract. The loop's invariant: the output is the one lent with the first bytes put in.
 use Prim.Native.Nat.{_≤_, _-_}
 use native.Mathlib.Omega.{arith}
 use native.Mathlib.Numerals.{add-one}
@@ -7,17 +7,17 @@ use denote.Ref.{now}
 use lib.ListN.{length}
 use lib.Seq.{paste, paste-zero, paste-suc, length-paste}
 use borrow.Author.Needs.{needs}
-use Rattle.table.proofs.rows.write_row.Statement.{statement}
-use Rattle.table.proofs.rows.write_row.Tie as tie
+use Rattle.byte_rows.proofs.copy.Statement.{statement}
+use Rattle.byte_rows.proofs.copy.Tie as tie
 
 abbrev Inv-loop : tie.InvT-loop
-Inv-loop out₀ at row i₀ out i = (i ≤ length row) × (out ≡ paste out₀ at row i)
+Inv-loop out₀ at from i₀ out i = (i ≤ length from) × (out ≡ paste out₀ at from i)
 
 abbrev μ-loop : tie.MeasureT-loop
-μ-loop out₀ at row i₀ out i = length row - i
+μ-loop out₀ at from i₀ out i = length from - i
 
 loop-holds : tie.Need-loop-holds Inv-loop μ-loop
-loop-holds c = (search needs, paste-zero (now (c .args .out)) (c .args .at) (now (c .args .row)))
+loop-holds c = (search needs, paste-zero (now (c .args .out)) (c .args .at) (now (c .args .from)))
 
 shared-slice-read-out : tie.Need-shared-slice-read-out Inv-loop μ-loop
 shared-slice-read-out c = search needs
@@ -29,7 +29,7 @@ slice-write-out : tie.Need-slice-write-out Inv-loop μ-loop
 slice-write-out c =
     let a = c .before .before .before .args in
     let l = c .before .before .loop in
-    rw (l .inv .1, length-paste (now (a .out)) (a .at) (now (a .row)) (l .i) (omega arith) (l .inv .0)) (omega arith)
+    rw (l .inv .1, length-paste (now (a .out)) (a .at) (now (a .from)) (l .i) (omega arith) (l .inv .0)) (omega arith)
 
 add-i : tie.Need-add-i Inv-loop μ-loop
 add-i c = search needs
@@ -41,23 +41,23 @@ loop-again : tie.Need-loop-again Inv-loop μ-loop
 loop-again c =
     let a = c .before .before .before .args in
     let l = c .before .before .loop in
-    (search needs, rw (l .inv .1, add-one) (paste-suc (now (a .out)) (a .at) (now (a .row)) (l .i) 0 (omega arith) (omega arith)))
+    (search needs, rw (l .inv .1, add-one) (paste-suc (now (a .out)) (a .at) (now (a .from)) (l .i) 0 (omega arith) (omega arith)))
 
 same-length : tie.Need-same-length Inv-loop μ-loop
 same-length c =
     let a = c .before .before .args in
     let l = c .before .loop in
-    rw (l .inv .1) (length-paste (now (a .out)) (a .at) (now (a .row)) (l .i) (omega arith) (l .inv .0))
+    rw (l .inv .1) (length-paste (now (a .out)) (a .at) (now (a .from)) (l .i) (omega arith) (l .inv .0))
 
 returns : tie.Need-returns Inv-loop μ-loop
 returns c =
     let a = c .before .before .args in
     let l = c .before .loop in
-    let e : l .i ≡ length (now (a .row)) = omega arith in
+    let e : l .i ≡ length (now (a .from)) = omega arith in
     rw e at (l .inv .1)
 
-pub write-row-spec : {M : Type 1} → statement M
-write-row-spec =
+pub copy-spec : {M : Type 1} → statement M
+copy-spec =
     tie.close
     (tie.spec
     Inv-loop

@@ -1,4 +1,4 @@
--- `table::rows::row` meets its contract: the first bytes of the rest of the table are those of the table from there.
+-- `byte_rows::row` meets its contract: the first bytes of the rest are those of the bytes from there.
 use Prim.Native.Nat.{_+_, _*_, _-_}
 use native.Mathlib.Omega.{arith}
 use mathlib.Core.Path.{_∙_}
@@ -6,8 +6,8 @@ use denote.Ref.{now}
 use lib.ListN.{length, drop}
 use lib.Seq.{take-take}
 use borrow.Author.Needs.{needs}
-use Rattle.table.proofs.rows.row.Statement.{statement}
-use Rattle.table.proofs.rows.row.Tie as tie
+use Rattle.byte_rows.proofs.row.Statement.{statement}
+use Rattle.byte_rows.proofs.row.Tie as tie
 
 mul-at : tie.Need-mul-at
 mul-at c = search needs
@@ -31,7 +31,7 @@ returns : tie.Need-returns
 returns c =
     let a = c .before .before .before .args in
     let at = a .base + a .i * a .width in
-    (c .first .ensures .0 ∙ take-take (a .width) (length (now (a .table)) - at) (drop at (now (a .table))) (omega arith), c .first .ensures .1)
+    (c .first .ensures .0 ∙ take-take (a .width) (length (now (a .bytes)) - at) (drop at (now (a .bytes))) (omega arith), c .first .ensures .1)
 
 pub row-spec : {M : Type 1} → statement M
 row-spec =

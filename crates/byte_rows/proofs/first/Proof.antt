@@ -1,9 +1,9 @@
--- `table::rows::first` meets its contract: the part is long enough.
+-- `byte_rows::first` meets its contract: the part is long enough.
 use mathlib.Core.Path.{refl, sym}
 use denote.Ref.{now}
 use lib.Seq.{length-take-le}
-use Rattle.table.proofs.rows.first.Statement.{statement}
-use Rattle.table.proofs.rows.first.Tie as tie
+use Rattle.byte_rows.proofs.first.Statement.{statement}
+use Rattle.byte_rows.proofs.first.Tie as tie
 
 slice-aggregate-result : tie.Need-slice-aggregate-result
 slice-aggregate-result c = let a = c .before .args in sym (length-take-le (a .width) (now (a .part)) (c .before .pre))

@@ -1,0 +1,59 @@
+-- Bytes written at a place, for any place and any number of bytes: one write directly behind another is one write of both.
+use Prim.Native.Nat.{ℕ, _+_, _≤_}
+use native.Mathlib.Nat.{zero-add, add-zero}
+use native.Mathlib.Omega.{arith}
+use mathlib.Core.Path.{_≡_, refl, sym, _∙_, ap, ap₂}
+use mathlib.Core.List.{[], _++_, append-assoc, append-nil}
+use lib.ListN.{length, take, drop, take-append-drop, length-append, length-drop, drop-of-length-le}
+use lib.Seq.{paste, length-take-le, take-length, take-at, drop-append-add, drop-drop}
+use Rattle.theory.specs.Query.{Bytes}
+use Rattle.byte_rows.specs.Placed.{placed}
+
+-- what `copy` leaves
+pub placed-row : (d : Bytes) (at : ℕ) (x : Bytes) → paste d at x (length x) ≡ placed at x d
+unfolding placed
+placed-row d at x =
+    append-assoc (take at d) (take (length x) x) (drop (at + length x) d) ∙ ap (λ r. take at d ++ (r ++ drop (at + length x) d)) (take-length x)
+
+pub placed-none : (d : Bytes) (at : ℕ) → d ≡ placed at [] d
+unfolding placed
+placed-none d at = rw add-zero (sym (take-append-drop at d))
+
+-- bytes written at the first place are the first ones ..
+pub placed-first : (x d : Bytes) → placed 0 x d ≡ x ++ drop (length x) d
+unfolding placed
+placed-first x d = rw zero-add
+
+pub placed-taken : (x d : Bytes) → take (length x) (placed 0 x d) ≡ x
+placed-taken x d = rw placed-first (take-at x (drop (length x) d) (length x) refl)
+
+-- .. and the only ones where they are as many as the buffer
+pub placed-whole : (x d : Bytes) → length d ≡ length x → placed 0 x d ≡ x
+placed-whole x d e = placed-first x d ∙ ap (λ r. x ++ r) (drop-of-length-le d {i = length x} (omega arith)) ∙ append-nil x
+
+pub placed-length : (at : ℕ) (x d : Bytes) → at + length x ≤ length d → length (placed at x d) ≡ length d
+unfolding placed
+placed-length at x d h = simp (length-append, length-drop) (omega (arith, length-take-le at d (omega arith)))
+
+pub placed-more : (at next : ℕ) (x y d : Bytes) → at + length x ≡ next → next ≤ length d → placed next y (placed at x d) ≡ placed at (x ++ y) d
+unfolding placed
+placed-more at next x y d e h =
+    let front = take at d ++ x in
+    let back = drop (at + length x) d in
+    let behind = drop (at + length (x ++ y)) d in
+    let long : length front ≡ next = length-append (take at d) x ∙ omega (arith, length-take-le at d (omega arith)) in
+    let sum : at + length x + length y ≡ at + length (x ++ y) = omega (arith, length-append x y) in
+    let rest : drop (next + length y) (front ++ back) ≡ behind =
+    ap (λ k. drop (k + length y) (front ++ back)) (sym long) ∙ drop-append-add front back (length y) ∙ drop-drop (length y) (at + length x) d ∙ ap (λ k. drop k d) sum in
+    ap (λ b. take next b ++ (y ++ drop (next + length y) b)) (sym (append-assoc (take at d) x back))
+    ∙ ap₂ (λ f r. f ++ (y ++ r)) (take-at front back next long) rest
+    ∙ append-assoc (take at d) x (y ++ behind)
+    ∙ ap (λ l. take at d ++ l) (sym (append-assoc x y behind))
+
+-- three writes from the start on, each behind the one before
+pub placed-three : (i j : ℕ) (x y z d : Bytes) → length x ≡ i → i + length y ≡ j → j ≤ length d
+    → placed j z (placed i y (placed 0 x d)) ≡ ((x ++ y) ++ z) ++ drop (length ((x ++ y) ++ z)) d
+placed-three i j x y z d e f h =
+    ap (placed j z) (placed-more 0 i x y d (omega arith) (omega arith))
+    ∙ placed-more 0 j (x ++ y) z d (omega (arith, length-append x y)) h
+    ∙ placed-first ((x ++ y) ++ z) d

@@ -1,0 +1,2 @@
+-- What is said of written bytes, beside the definitions of the crate `theory`.
+pub mod Placed
