@@ -5,7 +5,7 @@ use native.Mathlib.Omega.{arith}
 use mathlib.Core.Path.{_≡_, refl, sym, _∙_, ap, ap₂}
 use mathlib.Core.List.{[], _++_, append-assoc, append-nil}
 use lib.ListN.{length, take, drop, take-append-drop, length-append, length-drop, drop-of-length-le}
-use lib.Seq.{paste, length-take-le, take-length, take-at, drop-append-add, drop-drop}
+use lib.Seq.{paste, length-take-le, take-length, take-at, drop-at, take-append-le, drop-append-le, drop-append-add, drop-drop}
 use Rattle.theory.specs.Query.{Bytes}
 use Rattle.byte_rows.specs.Placed.{placed}
 
@@ -57,3 +57,19 @@ placed-three i j x y z d e f h =
     ap (placed j z) (placed-more 0 i x y d (omega arith) (omega arith))
     ∙ placed-more 0 j (x ++ y) z d (omega (arith, length-append x y)) h
     ∙ placed-first ((x ++ y) ++ z) d
+
+-- what lies before the place is kept, and what was written stands there
+front-part : (base n : ℕ) (f r : Bytes) → base + n ≤ length f → take n (drop base (f ++ r)) ≡ take n (drop base f)
+front-part base n f r h = rw (drop-append-le base f r (omega arith)) (take-append-le n (drop base f) r (rw length-drop (omega arith)))
+
+pub part-before : (base n at : ℕ) (x d : Bytes) → base + n ≤ at → at ≤ length d → take n (drop base (placed at x d)) ≡ take n (drop base d)
+unfolding placed
+part-before base n at x d h l =
+    let fits : base + n ≤ length (take at d) = omega (arith, length-take-le at d l) in
+    front-part base n (take at d) (x ++ drop (at + length x) d) fits
+    ∙ sym (front-part base n (take at d) (drop at d) fits)
+    ∙ ap (λ k. take n (drop base k)) (take-append-drop at d)
+
+pub part-placed : (at n : ℕ) (x d : Bytes) → length x ≡ n → at ≤ length d → take n (drop at (placed at x d)) ≡ x
+unfolding placed
+part-placed at n x d e l = ap (take n) (drop-at (take at d) (x ++ drop (at + length x) d) at (length-take-le at d l)) ∙ take-at x (drop (at + length x) d) n e

@@ -28,7 +28,7 @@ use Rattle.derivation.proofs.KeyLaws.{key-injective}
 use Rattle.nodes.proofs.NodeKeys.{produced-small, kept-small, nodes-count}
 use Rattle.closure.specs.Work.{packMarks, nodesOf}
 use Rattle.closure.specs.Marks.{inMarks}
-use Rattle.builder.specs.Output.{NodesListed, holdsKey, keyBits, heldBits}
+use Rattle.construction.specs.Held.{NodesListed, holdsKey, keyBits, heldBits}
 use Rattle.closure.proofs.MarkLaws.{marked-pack}
 
 -- what the bits from i on are, as a number

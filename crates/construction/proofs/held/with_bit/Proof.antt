@@ -1,8 +1,8 @@
--- `builder::held::with_bit` meets its contract, by the bit's two cases.
+-- `construction::held::with_bit` meets its contract, by the bit's two cases.
 use native.Mathlib.Omega.{arith}
 use borrow.Author.Needs.{needs}
-use Rattle.builder.proofs.held.with_bit.Statement.{statement}
-use Rattle.builder.proofs.held.with_bit.Tie as tie
+use Rattle.construction.proofs.held.with_bit.Statement.{statement}
+use Rattle.construction.proofs.held.with_bit.Tie as tie
 
 mul-result : tie.Need-mul-result
 mul-result c = search needs

@@ -1,4 +1,4 @@
--- `builder::held::holds` meets its contract: a key is found where its place is below n.
+-- `construction::held::holds` meets its contract: a key is found where its place is below n.
 use native.Mathlib.Omega.{arith}
 use mathlib.Core.Path.{_≡_, _∙_, ap}
 use denote.Ref.{now}
@@ -9,9 +9,9 @@ use borrow.Author.Needs.{needs}
 use Rattle.theory.specs.Tests.{position}
 use Rattle.orders.specs.Orders.{orderOf}
 use Rattle.derivation.specs.Keys.{keyOf}
-use Rattle.builder.specs.Output.{holdsKey}
-use Rattle.builder.proofs.held.holds.Statement.{statement}
-use Rattle.builder.proofs.held.holds.Tie as tie
+use Rattle.construction.specs.Held.{holdsKey}
+use Rattle.construction.proofs.held.holds.Statement.{statement}
+use Rattle.construction.proofs.held.holds.Tie as tie
 
 key-requires : tie.Need-key-requires
 key-requires c κs = search needs

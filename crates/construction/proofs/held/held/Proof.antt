@@ -1,4 +1,4 @@
--- `builder::held::held` meets its contract. The loop's invariant: the word is the held bits from i on, as a number.
+-- `construction::held::held` meets its contract. The loop's invariant: the word is the held bits from i on, as a number.
 use Prim.Native.Nat.{ℕ, _+_, _*_, _-_, _≤_}
 use native.Mathlib.Omega.{arith}
 use mathlib.Core.Bool.{Bool}
@@ -10,10 +10,10 @@ use Rattle.theory.specs.Table.{bit, number}
 use Rattle.theory.specs.Query.{orderCount, orderAt}
 use Rattle.query.proofs.PassedLaws.{query-passed}
 use Rattle.derivation.specs.Keys.{keyOf}
-use Rattle.builder.specs.Output.{holdsKey, keyBits}
-use Rattle.builder.proofs.HeldLaws.{number-none, number-more, number-room, held-bits}
-use Rattle.builder.proofs.held.held.Statement.{statement}
-use Rattle.builder.proofs.held.held.Tie as tie
+use Rattle.construction.specs.Held.{holdsKey, keyBits}
+use Rattle.construction.proofs.HeldLaws.{number-none, number-more, number-room, held-bits}
+use Rattle.construction.proofs.held.held.Statement.{statement}
+use Rattle.construction.proofs.held.held.Tie as tie
 
 abbrev Inv-loop : tie.InvT-loop
 Inv-loop query nodes n marks word₀ i₀ word i = (i ≤ orderCount query) × (word ≡ number (drop i (keyBits query n (take n nodes) marks)))
