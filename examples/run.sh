@@ -9,7 +9,7 @@ program=$(mktemp)
 trap 'rm -f "$program"' EXIT
 cc -std=c99 -Wall -Wextra -Wpedantic -Werror -O2 -I include examples/plan.c "$library/liborder_tables.a" -o "$program"
 "$program" | diff examples/plan.expected -
-cargo run --quiet --release --offline --locked --manifest-path wrapper/Cargo.toml --example plan | diff examples/plan.expected -
+cargo run --quiet --release --offline --locked -p order_tables --example plan | diff examples/plan.expected -
 sed -n '/^```c$/,/^```$/p' README.md | sed '1d;$d' | while IFS= read -r line; do
     grep -qxF -- "$line" examples/plan.c || { echo "README.md quotes a line that examples/plan.c does not have: $line" >&2; exit 1; }
 done

@@ -12,6 +12,8 @@
 //! `ORDER_TABLES_ROUNDS` the building and listing tests go so many rounds, each
 //! with seeds of its own.
 
+#![forbid(unsafe_code)]
+
 pub mod buffers;
 pub mod codes;
 pub mod inputs;

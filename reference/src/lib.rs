@@ -13,6 +13,8 @@
 //! make repeatable random queries, lists of lookups and rows; [`program`] runs a
 //! listing program.
 
+#![forbid(unsafe_code)]
+
 pub mod builder;
 pub mod construction;
 pub mod derivation;
