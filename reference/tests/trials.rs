@@ -8,7 +8,7 @@ use reference::trials::{self, Trial};
 use reference::{Dependency, Query, Reference};
 
 /// How many trials there are at least.
-const TRIALS: usize = 26;
+const TRIALS: usize = 27;
 
 #[test]
 fn every_trial() {
