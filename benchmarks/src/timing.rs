@@ -3,8 +3,7 @@
 use std::hint::black_box;
 use std::time::Instant;
 
-use differential::proved;
-use order_tables::{LONGEST_TABLE, SCRATCH_BYTES};
+use order_tables::{raw as proved, LONGEST_TABLE, SCRATCH_BYTES};
 use reference::{Implementation, Reference};
 
 /// Nanoseconds per call of several ways to do the same work, each of which makes

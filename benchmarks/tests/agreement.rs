@@ -4,7 +4,7 @@
 
 use benchmarks::by_hand;
 use benchmarks::reduction::PlanNode;
-use differential::proved;
+use order_tables::raw as proved;
 use reference::random::Random;
 use reference::{samples, trials, Dependency, Implementation, Query, Reference};
 

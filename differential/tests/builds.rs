@@ -187,13 +187,9 @@ fn queries_of_every_kind_listed() {
 #[test]
 fn every_byte_of_the_example_changed() {
     let mut comparison = Comparison::new(3);
-    let example = trials::example().query;
-    for place in 0..example.len() {
-        for byte in (0..32).chain([64, 65, 66, 79, 80, 127, 128, 254, 255]) {
-            let mut query = example.clone();
-            query[place] = byte;
-            comparison.compare(&query, some_lengths);
-        }
+    let bytes = (0..32).chain([64, 65, 66, 79, 80, 127, 128, 254, 255]);
+    for query in samples::each_byte_changed(&trials::example().query, bytes) {
+        comparison.compare(&query, some_lengths);
     }
     comparison.report("the example with a byte changed");
     assert!((0..=6).all(|refusal| comparison.queries.with(refusal) > 0));

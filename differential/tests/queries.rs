@@ -126,13 +126,8 @@ fn queries_with_equal_orders() {
 #[test]
 fn every_byte_of_the_example_changed() {
     let mut comparison = Comparison::new(4);
-    let example = trials::example().query;
-    for place in 0..example.len() {
-        for byte in 0..=255 {
-            let mut query = example.clone();
-            query[place] = byte;
-            comparison.compare(&query);
-        }
+    for query in samples::each_byte_changed(&trials::example().query, 0..=255) {
+        comparison.compare(&query);
     }
     comparison.report("the example query with a byte changed");
     assert!((0..=6).all(|refusal| comparison.checks.with(refusal) > 0));
@@ -142,12 +137,10 @@ fn every_byte_of_the_example_changed() {
 fn query_sizes_at_and_past_their_limits() {
     let mut comparison = Comparison::new(5);
     for sizes in samples::choices(samples::QUERY_EDGES) {
-        let mut query = samples::query_of_sizes(&mut comparison.random, sizes);
-        comparison.compare(&query);
-        query.push(255);
-        comparison.compare(&query);
-        query.truncate(query.len() - 2);
-        comparison.compare(&query);
+        let query = samples::query_of_sizes(&mut comparison.random, sizes);
+        for query in samples::of_nearly_this_length(&query) {
+            comparison.compare(&query);
+        }
         comparison.compare(&sizes);
     }
     comparison.report("query sizes at and past their limits");

@@ -155,13 +155,8 @@ fn tables_with_every_handle() {
 #[test]
 fn every_byte_of_the_example_table_changed() {
     let mut comparison = Comparison::new(6);
-    let example = trials::example().table;
-    for place in 0..example.len() {
-        for byte in 0..=255 {
-            let mut table = example.clone();
-            table[place] = byte;
-            comparison.compare(&table);
-        }
+    for table in samples::each_byte_changed(&trials::example().table, 0..=255) {
+        comparison.compare(&table);
     }
     comparison.report("the example table with a byte changed");
 }
@@ -170,12 +165,10 @@ fn every_byte_of_the_example_table_changed() {
 fn table_sizes_at_and_past_their_limits() {
     let mut comparison = Comparison::new(7);
     for sizes in samples::choices(samples::TABLE_EDGES) {
-        let mut table = samples::table_of_sizes(&mut comparison.random, sizes);
-        comparison.compare(&table);
-        table.push(0);
-        comparison.compare(&table);
-        table.truncate(table.len() - 2);
-        comparison.compare(&table);
+        let table = samples::table_of_sizes(&mut comparison.random, sizes);
+        for table in samples::of_nearly_this_length(&table) {
+            comparison.compare(&table);
+        }
         comparison.compare(&sizes);
     }
     comparison.report("table sizes at and past their limits");

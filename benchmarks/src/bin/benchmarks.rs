@@ -8,7 +8,7 @@ use benchmarks::by_hand;
 use benchmarks::reduction::PlanNode;
 use benchmarks::report::{self, number};
 use benchmarks::timing::{take_turns, Builds};
-use differential::proved;
+use order_tables::raw as proved;
 use reference::construction::Construction;
 use reference::random::Random;
 use reference::{trials, Implementation, Query, Reference};

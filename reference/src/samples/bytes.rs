@@ -54,6 +54,26 @@ pub fn any_sizes<const SIZES: usize>(
     limits.map(|limits| random.between(limits) as u8)
 }
 
+/// Some bytes, of which there is at least one; with one more; with one fewer.
+pub fn of_nearly_this_length(bytes: &[u8]) -> [Vec<u8>; 3] {
+    let longer = [bytes, &[255]].concat();
+    let shorter = bytes[..bytes.len() - 1].to_vec();
+    [bytes.to_vec(), longer, shorter]
+}
+
+/// All copies of some bytes with one of them changed to one of these.
+pub fn each_byte_changed(bytes: &[u8], others: impl Iterator<Item = u8> + Clone) -> Vec<Vec<u8>> {
+    let mut copies = Vec::new();
+    for place in 0..bytes.len() {
+        for byte in others.clone() {
+            let mut changed = bytes.to_vec();
+            changed[place] = byte;
+            copies.push(changed);
+        }
+    }
+    copies
+}
+
 /// A copy of some bytes, of which there is at least one, with some cut off, some
 /// put behind, or up to three of them changed.
 pub fn damaged(random: &mut Random, bytes: &[u8]) -> Vec<u8> {

@@ -8,7 +8,9 @@ mod queries;
 mod rows;
 mod tables;
 
-pub use bytes::{any_bytes, assorted_bytes, choices, damaged};
+pub use bytes::{
+    any_bytes, assorted_bytes, choices, damaged, each_byte_changed, of_nearly_this_length,
+};
 pub use lookups::lookups;
 pub use queries::{
     any_query, constants_among_produced, dependency, nearly_query, own_column_per_set, query,
