@@ -3,11 +3,16 @@
 
 use std::fs;
 use std::path::{Path, PathBuf};
-use std::str::FromStr;
 
 use crate::buffers::SCRATCH_BYTES;
 use crate::implementation::Implementation;
 use crate::lookups::{table_answers, Answer, Lookup};
+
+/// The words that a listing's lines begin with.
+const LISTING_WORDS: [&str; 4] = ["states", "start", "state", "refused"];
+
+/// More bytes than any table or listing has.
+const ROOM: usize = 8192;
 
 /// A query and what has to come out.
 #[derive(Clone, Debug, Default, PartialEq, Eq)]
@@ -45,7 +50,7 @@ impl Trial {
             let said = line.split('#').next().unwrap_or_default().trim_end();
             let read = match said.strip_prefix("= ") {
                 Some(expected) => trial.expect(expected),
-                None => numbers(said).map(|bytes| trial.query.extend::<Vec<u8>>(bytes)),
+                None => numbers(said).map(|bytes| trial.query.extend(bytes)),
             };
             read.ok_or_else(|| format!("can't read the line `{line}`"))?;
         }
@@ -59,7 +64,7 @@ impl Trial {
         } else if let Some(length) = expected.strip_prefix("table ") {
             self.table_length = Some(length.parse().ok()?);
         } else if let Some(bytes) = expected.strip_prefix("bytes ") {
-            self.table.extend(numbers::<u8>(bytes)?);
+            self.table.extend(numbers(bytes)?);
         } else if let Some(after) = expected.strip_prefix("after ") {
             self.expect_after(after)?;
         } else if let Some(scratch) = expected.strip_prefix("scratch ") {
@@ -172,19 +177,14 @@ impl Trial {
     }
 }
 
-/// The words that a listing's lines begin with.
-const LISTING_WORDS: [&str; 4] = ["states", "start", "state", "refused"];
-
-/// More bytes than any table or listing has.
-const ROOM: usize = 8192;
-
-/// Numbers separated by white space.
-fn numbers<T: FromStr>(text: &str) -> Option<Vec<T>> {
+/// Numbers below 256 separated by white space.
+fn numbers(text: &str) -> Option<Vec<u8>> {
     text.split_whitespace()
         .map(|number| number.parse().ok())
         .collect()
 }
 
+/// Nothing when it is as said, or else what came out.
 fn ensure(as_said: bool, came_out: impl Fn() -> String) -> Result<(), String> {
     if as_said {
         Ok(())

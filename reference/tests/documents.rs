@@ -1,4 +1,5 @@
-//! What the examples and the documents quote of trials is what these say.
+//! What the examples and the documents quote of trials is what these say, and
+//! what the README quotes of an example stands there.
 
 use std::fs;
 
@@ -91,6 +92,17 @@ fn the_readme_has_the_listing_and_the_query() {
     let length = format!("`examples/first.query` has {} bytes.", example.query.len());
     assert!(bytes.contains(&length));
     assert_eq!(quoted_bytes(bytes), example.query);
+}
+
+#[test]
+fn the_example_has_the_lines_that_the_readme_quotes() {
+    let (readme, plan) = (document("README.md"), document("examples/plan.c"));
+    let (_, quoted) = readme
+        .split_once("\n```c\n")
+        .expect("lines of C are quoted");
+    for line in quoted.lines().take_while(|line| *line != "```") {
+        assert!(plan.lines().any(|other| other == line), "{line}");
+    }
 }
 
 #[test]
