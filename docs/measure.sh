@@ -10,7 +10,7 @@ lines() { # CRATE FOLDER/PATTERN
     find "crates/$1" -path "crates/$1/$2" -exec cat {} + | wc -l
 }
 
-sed -n 's/^\([a-z_]*\):.*/\1/p' crates.txt | while read -r crate; do
+sed -n 's/^\([a-z0-9_]*\):.*/\1/p' crates.txt | while read -r crate; do
     # Two crates are checked at a time, so another one's lines may stand between a crate's functions and its seconds.
     measured=$(awk -v function_of="fn $crate::" -v proved="rt: $crate proved (" '
         index($0, function_of) == 1 { functions++ }
