@@ -1,17 +1,20 @@
 #!/usr/bin/env bash
 # The whole check: the second implementation's tests, every proof, must-fail edit and program, then the comparison of the proved library and
-# the listing program with the second implementation, the trials and the examples. It ends in the line `N passed, 0 failed` of the proofs.
+# the listing program with the second implementation, the trials and the examples. After the proofs it prints what each crate took, the table of
+# docs/CHANGES.md. It ends in the line `N passed, 0 failed` of the proofs.
 set -euo pipefail
 cd "$(dirname "$0")"
-cargo test --release --offline --locked --manifest-path reference/Cargo.toml
+cargo test --release --offline --locked -p reference
 proofs=$(mktemp)
 trap 'rm -f "$proofs"' EXIT
 rt ci | tee "$proofs"
-# `rt ci` begins by removing target/. What it has proved is not proved again for the library and the program. The tests print what they compared.
+docs/measure.sh "$proofs"
+# `rt ci` begins by removing target/, with what cargo has built there for the second implementation's tests, so it is built anew below. What `rt ci`
+# has proved is not proved again for the library and the program. The tests print what they compared.
 rt staticlib order_tables
 rt check order_listing
-cargo test --release --offline --locked --manifest-path wrapper/Cargo.toml
-cargo test --release --offline --locked --manifest-path differential/Cargo.toml -- --nocapture
-cargo test --release --offline --locked --manifest-path benchmarks/Cargo.toml
+cargo test --release --offline --locked -p order_tables
+cargo test --release --offline --locked -p differential -- --nocapture
+cargo test --release --offline --locked -p benchmarks
 examples/run.sh
 tail -n 1 "$proofs"

@@ -1,6 +1,5 @@
 #!/usr/bin/env bash
-# Builds the C and the Rust example on the proved library, runs them, and compares what they print with plan.expected. Each line of C that the
-# README quotes must stand in the example.
+# Builds the C and the Rust example on the proved library, runs them, and compares what they print with plan.expected.
 # The library is in the folder that ORDER_TABLES_LIB names, or where `rt staticlib order_tables` writes it.
 set -euo pipefail
 cd "$(dirname "$0")/.."
@@ -9,8 +8,5 @@ program=$(mktemp)
 trap 'rm -f "$program"' EXIT
 cc -std=c99 -Wall -Wextra -Wpedantic -Werror -O2 -I include examples/plan.c "$library/liborder_tables.a" -o "$program"
 "$program" | diff examples/plan.expected -
-cargo run --quiet --release --offline --locked --manifest-path wrapper/Cargo.toml --example plan | diff examples/plan.expected -
-sed -n '/^```c$/,/^```$/p' README.md | sed '1d;$d' | while IFS= read -r line; do
-    grep -qxF -- "$line" examples/plan.c || { echo "README.md quotes a line that examples/plan.c does not have: $line" >&2; exit 1; }
-done
+cargo run --quiet --release --offline --locked -p order_tables --example plan | diff examples/plan.expected -
 echo "both examples print examples/plan.expected"

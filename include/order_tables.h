@@ -1,7 +1,7 @@
-/* Order tables: build the table of a query, check a table, look it up, list it.
+/* Order tables: check a query and read it, build its table, check a table, look it up, list it.
  *
- * Every function returns a refusal's number times 65,536 plus a value. A refusal of 0 is none, and on refusal the value is 0. Split a result
- * with order_table_refusal and order_table_value.
+ * Every function but order_query_order and order_query_dependency returns a refusal's number times 65,536 plus a value. A refusal of 0 is none,
+ * and on refusal the value is 0. Split such a result with order_table_refusal and order_table_value.
  *
  * Buffers are lent for the call: a pointer to so many bytes. Buffers of one call must not overlap. A buffer of length 0 may be any pointer but
  * a null one. Nothing is allocated, and nothing is kept between calls.
@@ -49,6 +49,19 @@ static inline uint32_t order_table_refusal(uint32_t result) { return result >> 1
 /* The value of a result; 0 when it is refused. */
 static inline uint32_t order_table_value(uint32_t result) { return result & 0xffff; }
 
+/* The checks 1 to 6 of a query. Value: 0. Refusals: 1 to 6. A query that passes them may still be refused with 7 or 8 when it is built. */
+uint32_t order_query_check(const uint8_t *query, size_t query_length);
+
+/* Interesting order i of a query that passes order_query_check, where i is below P + T: its length in the lowest byte, then its columns, a byte
+ * each, the first one lowest, and 0 above them. Of other queries, or past the last order, it is a number without meaning, fixed by the query's
+ * bytes and i. */
+uint64_t order_query_order(const uint8_t *query, size_t query_length, uint8_t i);
+
+/* Dependency i of a query that passes order_query_check, where i is below D: its set in the lowest byte, its kind in the next one, then its
+ * columns, a byte each, the first one lowest, and 0 above them. Kind 0 to 3 is a fix with that many left columns: those, then the right one. Kind 4
+ * is an equal: two columns. Of other queries, or past the last dependency, it is a number without meaning, fixed by the query's bytes and i. */
+uint64_t order_query_dependency(const uint8_t *query, size_t query_length, uint8_t i);
+
 /* Builds the table of a query into the output's first bytes. Value: the table's length. Refusals: 1 to 9.
  * On refusal the output keeps its bytes, and those past the table always keep theirs. Refusals 1 to 6, and 9 for scratch, leave the scratch as it
  * is. Afterwards its first ORDER_TABLE_SCRATCH bytes are 0 in every other case; those past them keep theirs. */
@@ -77,9 +90,10 @@ uint32_t order_table_ask(const uint8_t *table, size_t table_length, uint8_t stat
 /* Where in the table a state's row of successors begins, one byte for each set. Refusals: 1, 2, 10. */
 uint32_t order_table_row(const uint8_t *table, size_t table_length, uint8_t state);
 
-/* Writes the listing of a query, or the line that says how it is refused, into the text's first bytes. Value: the listing's length.
- * Refusal: 9, for scratch or for text, and then nothing is written to the text. Scratch of ORDER_TABLE_SCRATCH bytes or more has 0 in the
- * first ORDER_TABLE_SCRATCH bytes afterwards, refused or not; less is left as it is. */
+/* Writes the listing of a query, or the line that says how it is refused with 1 to 8, into the text's first bytes. Value: the length of what is
+ * written. Refusal: 9, and then the text keeps its bytes; those past what is written always keep theirs. The checks 1 to 6 come first; then 9 for
+ * scratch, which a query that they refuse does not need; then 7 and 8; and last 9 for a text shorter than what is to be written. The scratch is
+ * afterwards as order_table_build leaves it. */
 uint32_t order_table_list(const uint8_t *query, size_t query_length, uint8_t *scratch, size_t scratch_length, uint8_t *text, size_t text_length);
 
 #ifdef __cplusplus

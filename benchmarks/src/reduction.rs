@@ -9,7 +9,7 @@
 //! This is not the answer of a table: it remembers sets, and what it finds
 //! depends on the sequence in which it tries the dependencies.
 
-use reference::query::{ColumnSet, Order};
+use reference::query::{column_set, ColumnSet, Order};
 use reference::{Query, Rule};
 
 /// A fix as column sets.
@@ -42,7 +42,7 @@ impl PlanNode {
         for dependency in query.dependencies_of(set) {
             match &dependency.rule {
                 Rule::Fix { left, right } => self.fixes.push(Fix {
-                    left: left.iter().fold(0, |columns, column| columns | 1 << column),
+                    left: column_set(left),
                     right: *right,
                 }),
                 Rule::Equal(one, other) => {
@@ -95,9 +95,7 @@ impl PlanNode {
     fn settled(&self, columns: &[u8]) -> Option<usize> {
         self.fixes.iter().find_map(|fix| {
             let place = columns.iter().position(|&column| column == fix.right)?;
-            let before = columns[..place]
-                .iter()
-                .fold(0, |set, column| set | 1 << column);
+            let before = column_set(&columns[..place]);
             (fix.left & !before == 0).then_some(place)
         })
     }

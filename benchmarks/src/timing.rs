@@ -3,8 +3,8 @@
 use std::hint::black_box;
 use std::time::Instant;
 
-use differential::proved;
-use order_tables::{LONGEST_TABLE, SCRATCH_BYTES};
+use order_tables::{raw as proved, LONGEST_TABLE, SCRATCH_BYTES};
+use reference::{Implementation, Reference};
 
 /// Nanoseconds per call of several ways to do the same work, each of which makes
 /// so many calls at once. The ways take turns, and the least time of each
@@ -68,7 +68,7 @@ impl Builds {
             black_box(proved_buffers.proved(query));
         };
         let mut second = || {
-            let built = reference::build(black_box(query), &mut self.scratch, &mut self.output);
+            let built = Reference::build(black_box(query), &mut self.scratch, &mut self.output);
             let _ = black_box(built);
         };
         take_turns(turns, 1, [&mut proved, &mut second])

@@ -3,9 +3,8 @@
 
 use std::time::{Duration, Instant};
 
-use differential::inputs::{any_dependency, largest_query, query_of_many_states, some_columns};
 use reference::random::Random;
-use reference::samples::{self, Shape};
+use reference::samples::{self, dependency, query_of_many_states, some_columns, Shape};
 use reference::Query;
 
 use crate::timing::Builds;
@@ -106,7 +105,7 @@ impl Slowest {
     fn changed(&self, random: &mut Random) -> Option<Query> {
         let slow = self.by_outcome[[0, 0, 0, 0, 1, 2, 2, 2][random.below(8)]].as_ref()?;
         let mut query = slow.query.clone();
-        for _ in 0..random.between(1, 3) {
+        for _ in 0..random.between((1, 3)) {
             change(random, &mut query);
         }
         Some(query)
@@ -115,8 +114,14 @@ impl Slowest {
 
 /// All sizes up to their limits, but few columns, of which most orders are nodes.
 const FEW_COLUMNS: Shape = Shape {
-    columns: 7,
+    columns: (1, 7),
     ..Shape::FULL
+};
+
+/// The largest sizes, but for the dependencies.
+const LARGE: Shape = Shape {
+    dependencies: (2, 16),
+    ..Shape::LARGEST
 };
 
 /// A random query that may be slow to build.
@@ -125,25 +130,22 @@ fn large_query(random: &mut Random) -> Query {
         0 => samples::query(random, Shape::FULL),
         1 => samples::query(random, FEW_COLUMNS),
         2 => query_of_many_states(random),
-        _ => {
-            let dependencies = random.between(2, 16);
-            largest_query(random, dependencies)
-        }
+        _ => samples::query(random, LARGE),
     }
 }
 
 /// Changes one order or one dependency. The query may be refused afterwards.
 fn change(random: &mut Random, query: &mut Query) {
-    let columns = random.between(4, 12) as u8;
+    let columns = random.between((4, 12)) as u8;
     query.columns = 12;
     query.sets = 8;
     match random.below(8) {
         0 => {
-            let order = some_columns(random, columns, 0, 4);
+            let order = some_columns(random, columns, (0, 4));
             put(random, &mut query.produced, 8, order);
         }
         1 => {
-            let order = some_columns(random, columns, 1, 4);
+            let order = some_columns(random, columns, (1, 4));
             put(random, &mut query.tested, 8, order);
         }
         2 if query.produced.len() > 1 => remove(random, &mut query.produced),
@@ -154,7 +156,7 @@ fn change(random: &mut Random, query: &mut Query) {
             query.dependencies[place].set = random.below(8) as u8;
         }
         _ => {
-            let dependency = any_dependency(random, columns);
+            let dependency = dependency(random, columns, 8);
             put(random, &mut query.dependencies, 16, dependency);
         }
     }

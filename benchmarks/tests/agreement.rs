@@ -4,21 +4,16 @@
 
 use benchmarks::by_hand;
 use benchmarks::reduction::PlanNode;
-use differential::inputs::{damaged, table_of_sizes};
-use differential::proved;
-use reference::builder::build_table;
+use order_tables::raw as proved;
 use reference::random::Random;
-use reference::samples::EXAMPLE_QUERY;
-use reference::{Dependency, Query};
+use reference::{samples, trials, Dependency, Implementation, Query, Reference};
 
 #[test]
 fn lookups_by_hand() {
     let mut random = Random::new(1);
     for _ in 0..2000 {
-        let sizes = [(1, 128), (1, 8), (0, 8), (0, 8)];
-        let sizes = sizes.map(|(least, most)| random.between(least, most) as u8);
-        let table = table_of_sizes(&mut random, sizes);
-        for table in [damaged(&mut random, &table), table] {
+        let table = samples::any_table(&mut random);
+        for table in [samples::damaged(&mut random, &table), table] {
             for _ in 0..20 {
                 let [a, b] = [[16, 256], [10, 256]].map(|limits| {
                     let limit = limits[random.below(2)];
@@ -37,15 +32,15 @@ fn lookups_by_hand() {
 
 #[test]
 fn reduction_of_the_example() {
-    let query = Query::read(&EXAMPLE_QUERY).expect("the example is read");
-    let table = build_table(&EXAMPLE_QUERY).expect("the example has a table");
+    let example = trials::example();
+    let query = Query::read(&example.query).expect("the example is read");
     for produced in 0..2 {
         for sets in [&[][..], &[0], &[1], &[0, 1], &[1, 0]] {
-            let state = reference::table::follow(&table, produced, sets).expect("granted");
+            let state = Reference::follow(&example.table, produced, sets).expect("granted");
             let mut node = PlanNode::new(&query.produced[usize::from(produced)]);
             sets.iter().for_each(|&set| node.take(&query, set));
             for (handle, order) in (0..).zip(query.interesting()) {
-                let held = reference::table::ask(&table, state, handle);
+                let held = Reference::ask(&example.table, state, handle);
                 assert_eq!(Ok(node.ask(order)), held, "{order:?} after {sets:?}");
             }
         }

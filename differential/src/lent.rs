@@ -3,8 +3,7 @@
 use std::hint::black_box;
 
 use reference::random::Random;
-
-use crate::inputs::any_bytes;
+use reference::samples::any_bytes;
 
 /// Guard bytes on each side.
 const GUARD: usize = 16;

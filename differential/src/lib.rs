@@ -1,23 +1,23 @@
 //! Compares the functions of the proved library with the second
 //! implementation, on inputs that repeat.
 //!
-//! [`proved`] calls the library, and [`codes`] says which numbers its functions
-//! have to return for the second implementation's answers. [`inputs`] makes the
-//! bytes to compare on, [`lent`] lends them between guard bytes, [`buffers`] says
-//! how lent buffers have to be afterwards, [`mod@lookups`] answers lists of
-//! lookups, and [`tally`] counts. [`mod@trials`] reads the queries of the folder
-//! trials/. The tests of this package do the comparing.
+//! [`proved`] has the library's functions as they are, and [`codes`] says which
+//! numbers they have to return for the second implementation's answers.
+//! [`library`] puts trials and lists of lookups to the library, [`mod@replay`]
+//! makes the bytes of a replay, [`lent`] lends bytes between guard bytes, and
+//! [`tally`] counts. The tests of this package do the comparing.
 //!
 //! Each test compares with fixed seeds. With the environment variable
 //! `ORDER_TABLES_ROUNDS` the building and listing tests go so many rounds, each
 //! with seeds of its own.
 
-pub mod buffers;
-pub mod codes;
-pub mod inputs;
-pub mod lent;
-pub mod lookups;
-pub mod tally;
-pub mod trials;
+#![forbid(unsafe_code)]
 
+pub mod codes;
+pub mod lent;
+pub mod library;
+pub mod replay;
+pub mod tally;
+
+pub use library::Library;
 pub use order_tables::raw as proved;

@@ -5,25 +5,46 @@
 
 use std::env;
 
-use differential::inputs::{
-    any_bytes, any_query, choices, damaged, largest_query, query_of_sizes, QUERY_EDGES,
-};
 use differential::lent::Lent;
-use differential::lookups::{lookup_bytes, proved_answers, replayed_answers};
+use differential::replay::{lookup_bytes, replayed_answers};
 use differential::tally::Tally;
-use differential::{buffers, codes, proved};
+use differential::{codes, proved, Library};
 use order_tables::{LISTING_BYTES, LONGEST_TABLE, SCRATCH_BYTES};
 use reference::builder::build_table;
 use reference::construction::{Construction, Limits};
-use reference::lookups::{model_answers, Answer};
+use reference::lookups::{model_answers, table_answers, Answer};
 use reference::random::Random;
-use reference::samples::{
-    self, constants_among_produced, own_column_per_set, Shape, EXAMPLE_LISTING, EXAMPLE_QUERY,
-    EXAMPLE_TABLE,
-};
+use reference::samples::{self, constants_among_produced, own_column_per_set, Shape};
+use reference::{buffers, listing, trials};
 
 /// Lengths of scratch around what a build takes.
 const SCRATCH_LENGTHS: [usize; 5] = [0, 16_383, 16_384, 16_385, 20_000];
+
+/// The length of a table, for queries that have none.
+const SOME_TABLE: usize = 26;
+
+/// Pairs of lengths of scratch and of output or text, for what takes so many
+/// bytes and the most that anything takes.
+type Lengths = fn(&mut Random, usize, usize) -> Vec<(usize, usize)>;
+
+/// Each length of scratch with outputs that are too short, just long enough, and
+/// longer.
+fn all_lengths(_: &mut Random, length: usize, longest: usize) -> Vec<(usize, usize)> {
+    let outputs = [0, length - 1, length, length + 9, longest];
+    SCRATCH_LENGTHS
+        .iter()
+        .flat_map(|&scratch| outputs.map(|output| (scratch, output)))
+        .collect()
+}
+
+/// Lengths that are just enough, and two other pairs.
+fn some_lengths(random: &mut Random, length: usize, longest: usize) -> Vec<(usize, usize)> {
+    let mut lengths = all_lengths(random, length, longest);
+    random.shuffle(&mut lengths);
+    lengths.truncate(2);
+    lengths.push((SCRATCH_BYTES, length));
+    lengths
+}
 
 /// How many rounds to go: as many as `ORDER_TABLES_ROUNDS` says, or one.
 fn rounds() -> u64 {
@@ -50,58 +71,34 @@ impl Comparison {
     }
 
     /// Compares builds and listings of a query.
-    fn compare(&mut self, query: &[u8]) {
-        self.compare_builds(query);
-        self.compare_lists(query);
+    fn compare(&mut self, query: &[u8], lengths: Lengths) {
+        self.compare_builds(query, lengths);
+        self.compare_lists(query, lengths);
     }
 
-    /// Compares builds of a query in several buffers: ones that are just long
-    /// enough, and others.
-    fn compare_builds(&mut self, query: &[u8]) {
+    /// Compares builds of a query.
+    fn compare_builds(&mut self, query: &[u8], lengths: Lengths) {
         let table = build_table(query);
-        let length = table.as_ref().map_or(EXAMPLE_TABLE.len(), Vec::len);
-        self.compare_build(query, &table, SCRATCH_BYTES, length);
-        for _ in 0..2 {
-            let scratch = self.one_of(SCRATCH_LENGTHS);
-            let output = self.one_of([0, length - 1, length, length + 9, LONGEST_TABLE]);
-            self.compare_build(query, &table, scratch, output);
+        let length = table.as_ref().map_or(SOME_TABLE, Vec::len);
+        let known = |scratch: &mut [u8], output: &mut [u8]| buffers::build(&table, scratch, output);
+        for (scratch, output) in lengths(&mut self.random, length, LONGEST_TABLE) {
+            let case = format!("build with {scratch} and {output} bytes of query {query:?}");
+            let code = self.compare_call(&case, query, scratch, output, known, proved::table_build);
+            self.builds.count(code);
         }
         self.queries.count(codes::answer(table.map(|_| 0)));
     }
 
-    /// Compares listings of a query in several buffers: ones that are just long
-    /// enough, and others.
-    fn compare_lists(&mut self, query: &[u8]) {
-        let listing = reference::listing(query);
-        let length = listing.len();
-        self.compare_list(query, &listing, SCRATCH_BYTES, length);
-        for _ in 0..2 {
-            let scratch = self.one_of(SCRATCH_LENGTHS);
-            let text = self.one_of([0, length - 1, length, length + 9, LISTING_BYTES]);
-            self.compare_list(query, &listing, scratch, text);
+    /// Compares listings of a query.
+    fn compare_lists(&mut self, query: &[u8], lengths: Lengths) {
+        let lines = listing::lines(query);
+        let length = listing::printed(&lines).len();
+        let known = |scratch: &mut [u8], text: &mut [u8]| buffers::list(&lines, scratch, text);
+        for (scratch, text) in lengths(&mut self.random, length, LISTING_BYTES) {
+            let case = format!("listing with {scratch} and {text} bytes of query {query:?}");
+            let code = self.compare_call(&case, query, scratch, text, known, proved::table_list);
+            self.listings.count(code);
         }
-    }
-
-    /// Compares one build of a query whose table or refusal is known.
-    fn compare_build(
-        &mut self,
-        query: &[u8],
-        table: &Result<Vec<u8>, u8>,
-        scratch: usize,
-        output: usize,
-    ) {
-        let case = format!("build with {scratch} and {output} bytes of query {query:?}");
-        let known = |scratch: &mut [u8], output: &mut [u8]| buffers::build(table, scratch, output);
-        let code = self.compare_call(&case, query, scratch, output, known, proved::table_build);
-        self.builds.count(code);
-    }
-
-    /// Compares one listing of a query whose listing is known.
-    fn compare_list(&mut self, query: &[u8], listing: &[u8], scratch: usize, text: usize) {
-        let case = format!("listing with {scratch} and {text} bytes of query {query:?}");
-        let known = |scratch: &mut [u8], text: &mut [u8]| buffers::list(listing, scratch, text);
-        let code = self.compare_call(&case, query, scratch, text, known, proved::table_list);
-        self.listings.count(code);
     }
 
     /// Calls a function of the proved library in buffers of these lengths, and
@@ -112,7 +109,7 @@ impl Comparison {
         query: &[u8],
         scratch: usize,
         output: usize,
-        known: impl Fn(&mut [u8], &mut [u8]) -> Result<u32, u8>,
+        known: impl Fn(&mut [u8], &mut [u8]) -> Result<usize, u8>,
         call: fn(&[u8], &mut [u8], &mut [u8]) -> u32,
     ) -> u32 {
         let query = Lent::new(&mut self.random, query);
@@ -120,7 +117,8 @@ impl Comparison {
         let mut output = self.filled(output);
         let mut expected_scratch = scratch.bytes().to_vec();
         let mut expected_output = output.bytes().to_vec();
-        let expected = codes::answer(known(&mut expected_scratch, &mut expected_output));
+        let expected = known(&mut expected_scratch, &mut expected_output);
+        let expected = codes::answer(expected.map(|length| length as u32));
 
         let code = call(query.bytes(), scratch.bytes_mut(), output.bytes_mut());
         assert_eq!(code, expected, "{case}");
@@ -137,13 +135,9 @@ impl Comparison {
             1 => vec![255; length],
             2 => vec![0b1010_1010; length],
             3 => (0..length).map(|place| place as u8).collect(),
-            _ => any_bytes(&mut self.random, length),
+            _ => samples::any_bytes(&mut self.random, length),
         };
         Lent::new(&mut self.random, &bytes)
-    }
-
-    fn one_of<const COUNT: usize>(&mut self, lengths: [usize; COUNT]) -> usize {
-        lengths[self.random.below(COUNT)]
     }
 
     /// Says what was compared.
@@ -166,8 +160,8 @@ fn queries_of_every_kind_built() {
     for round in 0..rounds() {
         let mut comparison = Comparison::new(1000 * round + 1);
         for _ in 0..20_000 {
-            let query = any_query(&mut comparison.random);
-            comparison.compare_builds(&query);
+            let query = samples::any_query(&mut comparison.random);
+            comparison.compare_builds(&query, some_lengths);
         }
         comparison.report("queries of every kind, built");
         assert!(comparison.queries.with(0) > 8000);
@@ -181,8 +175,8 @@ fn queries_of_every_kind_listed() {
     for round in 0..rounds() {
         let mut comparison = Comparison::new(1000 * round + 2);
         for _ in 0..20_000 {
-            let query = any_query(&mut comparison.random);
-            comparison.compare_lists(&query);
+            let query = samples::any_query(&mut comparison.random);
+            comparison.compare_lists(&query, some_lengths);
         }
         comparison.report("queries of every kind, listed");
         assert!(comparison.listings.with(0) > 20_000);
@@ -191,52 +185,42 @@ fn queries_of_every_kind_listed() {
 }
 
 #[test]
-fn the_example_and_every_byte_of_it_changed() {
+fn every_byte_of_the_example_changed() {
     let mut comparison = Comparison::new(3);
-    let mut output = [7; LONGEST_TABLE];
-    let length = proved::table_build(&EXAMPLE_QUERY, &mut [0; SCRATCH_BYTES], &mut output);
-    assert_eq!(&output[..length as usize], EXAMPLE_TABLE);
-    let mut text = [7; LISTING_BYTES];
-    let length = proved::table_list(&EXAMPLE_QUERY, &mut [0; SCRATCH_BYTES], &mut text);
-    assert_eq!(&text[..length as usize], EXAMPLE_LISTING.as_bytes());
-    for place in 0..EXAMPLE_QUERY.len() {
-        for byte in (0..32).chain([64, 65, 66, 79, 80, 127, 128, 254, 255]) {
-            let mut query = EXAMPLE_QUERY;
-            query[place] = byte;
-            comparison.compare(&query);
-        }
+    let bytes = (0..32).chain([64, 65, 66, 79, 80, 127, 128, 254, 255]);
+    for query in samples::each_byte_changed(&trials::example().query, bytes) {
+        comparison.compare(&query, some_lengths);
     }
     comparison.report("the example with a byte changed");
     assert!((0..=6).all(|refusal| comparison.queries.with(refusal) > 0));
 }
 
 #[test]
-fn scratch_of_16383_bytes() {
-    let refused = |query: &[u8], scratch: usize| {
-        let mut output = [7; LONGEST_TABLE];
-        let code = proved::table_build(query, &mut vec![7; scratch], &mut output);
-        assert_eq!(output, [7; LONGEST_TABLE]);
-        code >> 16
-    };
-    assert_eq!(refused(&EXAMPLE_QUERY, 16_383), 9);
-    // The query's own checks 1 to 6 come before, 7 and 8 after.
-    assert_eq!(refused(&EXAMPLE_QUERY[..4], 16_383), 1);
-    assert_eq!(refused(&own_column_per_set(8).write(), 16_383), 9);
-    assert_eq!(refused(&own_column_per_set(8).write(), 16_384), 8);
+fn short_scratch_and_short_output_together() {
+    let mut comparison = Comparison::new(9);
+    for trial in trials::all() {
+        comparison.compare(&trial.query, all_lengths);
+    }
+    for _ in 0..500 {
+        let query = samples::any_query(&mut comparison.random);
+        comparison.compare(&query, all_lengths);
+    }
+    comparison.report("short scratch and short output together");
+    assert!((0..=8).all(|refusal| comparison.queries.with(refusal) > 0));
 }
 
 #[test]
 fn sizes_at_and_past_their_limits() {
     let mut comparison = Comparison::new(4);
-    for sizes in choices(QUERY_EDGES) {
-        let query = query_of_sizes(&mut comparison.random, sizes);
-        comparison.compare(&query);
+    for sizes in samples::choices(samples::QUERY_EDGES) {
+        let query = samples::query_of_sizes(&mut comparison.random, sizes);
+        comparison.compare(&query, some_lengths);
     }
     for _ in 0..500 {
-        let query = largest_query(&mut comparison.random, 16).write();
-        comparison.compare(&query);
-        let damaged = damaged(&mut comparison.random, &query);
-        comparison.compare(&damaged);
+        let query = samples::query(&mut comparison.random, Shape::LARGEST).write();
+        comparison.compare(&query, some_lengths);
+        let damaged = samples::damaged(&mut comparison.random, &query);
+        comparison.compare(&damaged, some_lengths);
     }
     comparison.report("sizes at and past their limits");
     assert!([1, 2, 7]
@@ -249,10 +233,10 @@ fn states_up_to_128_and_past_them() {
     let mut comparison = Comparison::new(5);
     for sets in 0..=8 {
         let mut query = own_column_per_set(sets);
-        comparison.compare(&query.write());
+        comparison.compare(&query.write(), some_lengths);
         // One start more: 129 states with 7 sets.
         query.produced.push(vec![]);
-        comparison.compare(&query.write());
+        comparison.compare(&query.write(), some_lengths);
     }
     comparison.report("states up to 128 and past them");
     assert_eq!(comparison.queries.with(8), 3);
@@ -265,7 +249,7 @@ fn nodes_up_to_256_and_past_them() {
         let query = constants_among_produced(triples);
         let counted = Construction::within(&query, Limits::COUNTING).expect("countable");
         assert_eq!(counted.nodes.len(), 254 + triples);
-        comparison.compare(&query.write());
+        comparison.compare(&query.write(), some_lengths);
     }
     comparison.report("nodes up to 256 and past them");
     assert_eq!(comparison.queries.with(0), 2);
@@ -275,49 +259,42 @@ fn nodes_up_to_256_and_past_them() {
 /// More columns than in small queries, and still few enough orderings for
 /// uncut derivation.
 const MIDDLE: Shape = Shape {
-    columns: 7,
-    produced: 5,
-    tested: 8,
-    longest: 4,
-    sets: 6,
-    dependencies: 6,
+    columns: (1, 7),
+    produced: (1, 5),
+    tested: (0, 8),
+    lengths: (0, 4),
+    sets: (0, 6),
+    dependencies: (0, 6),
 };
 
 #[test]
 fn lists_of_lookups_on_built_tables() {
     for round in 0..rounds() {
         let mut random = Random::new(1000 * round + 7);
-        let mut tables = 0;
         let mut answers = [0; 4];
         for (shape, count) in [(Shape::SMALL, 3000), (MIDDLE, 300)] {
             for _ in 0..count {
-                let query = samples::query(&mut random, shape);
-                let mut output = [0; LONGEST_TABLE];
-                let mut scratch = [0; SCRATCH_BYTES];
-                let length = proved::table_build(&query.write(), &mut scratch, &mut output);
-                if length >> 16 != 0 {
-                    continue;
-                }
-                let table = Lent::new(&mut random, &output[..length as usize]);
-                assert_eq!(proved::table_check(table.bytes()), 0, "table of {query:?}");
+                let (query, table) = samples::query_with_table(&mut random, shape);
                 let lookups = samples::lookups(&mut random, &query, 40);
-                let given = proved_answers(table.bytes(), &lookups);
                 let expected = model_answers(&query, &lookups);
+                let table = Lent::new(&mut random, &table);
+                assert_eq!(proved::table_check(table.bytes()), 0, "table of {query:?}");
+                let given = table_answers::<Library>(table.bytes(), &lookups);
                 assert_eq!(given, expected, "{lookups:?} on the table of {query:?}");
                 assert!(table.is_unchanged(), "written to the table of {query:?}");
+
                 let mut replayed = Lent::new(&mut random, &lookup_bytes(&lookups));
-                let again = proved::table_replay(
+                let mut output = [0; LONGEST_TABLE];
+                let length = proved::table_replay(
                     &query.write(),
-                    &mut scratch,
+                    &mut [0; SCRATCH_BYTES],
                     &mut output,
                     replayed.bytes_mut(),
                 );
-                assert_eq!(again, length, "length of the table of {query:?}");
                 assert_eq!(&output[..length as usize], table.bytes(), "{query:?}");
-                let given_again = replayed_answers(&lookups, replayed.bytes());
-                assert_eq!(given_again, expected, "{lookups:?} replayed on {query:?}");
+                let given = replayed_answers(&lookups, replayed.bytes());
+                assert_eq!(given, expected, "{lookups:?} replayed on {query:?}");
                 assert!(replayed.is_guarded(), "past the lookups of {query:?}");
-                tables += 1;
                 for answer in given {
                     answers[kind(answer)] += 1;
                 }
@@ -325,10 +302,10 @@ fn lists_of_lookups_on_built_tables() {
         }
         let [moves, held, not_held, refused] = answers;
         println!(
-            "lists of lookups on {tables} built tables: {moves} entries and takes, \
+            "lists of lookups on 3300 built tables: {moves} entries and takes, \
              {held} held, {not_held} not held, {refused} refused"
         );
-        assert!(tables > 3000 && answers.iter().all(|&count| count > 5000));
+        assert!(answers.iter().all(|&count| count > 5000));
     }
 }
 
@@ -340,7 +317,7 @@ fn a_refused_replay_keeps_the_lookups() {
         (constants_among_produced(4).write(), 7),
         (vec![1, 1, 0, 0], 1),
     ] {
-        let bytes = any_bytes(&mut random, 41);
+        let bytes = samples::any_bytes(&mut random, 41);
         let mut lookups = Lent::new(&mut random, &bytes);
         let mut scratch = [7; SCRATCH_BYTES];
         let mut output = [7; LONGEST_TABLE];

@@ -1,15 +1,12 @@
 //! Reading queries: the proved library and the second implementation refuse the
 //! same bytes with the same numbers, and read the same from the others.
 
-use differential::inputs::{
-    any_bytes, choices, damaged, query_of_sizes, with_equal_orders, QUERY_EDGES,
-};
 use differential::lent::Lent;
 use differential::tally::Tally;
 use differential::{codes, proved};
 use reference::random::Random;
-use reference::samples::{self, Shape, EXAMPLE_QUERY};
-use reference::Query;
+use reference::samples::{self, Shape};
+use reference::{trials, Query};
 
 /// A comparison of queries, and what was compared so far.
 struct Comparison {
@@ -88,7 +85,7 @@ impl Comparison {
 #[test]
 fn queries_that_are_read() {
     let mut comparison = Comparison::new(1);
-    comparison.compare(&EXAMPLE_QUERY);
+    comparison.compare(&trials::example().query);
     for _ in 0..4000 {
         for shape in [Shape::SMALL, Shape::FULL] {
             let query = samples::query(&mut comparison.random, shape);
@@ -106,7 +103,7 @@ fn damaged_queries() {
         for shape in [Shape::SMALL, Shape::FULL] {
             let query = samples::query(&mut comparison.random, shape).write();
             for _ in 0..4 {
-                let damaged = damaged(&mut comparison.random, &query);
+                let damaged = samples::damaged(&mut comparison.random, &query);
                 comparison.compare(&damaged);
             }
         }
@@ -119,7 +116,7 @@ fn damaged_queries() {
 fn queries_with_equal_orders() {
     let mut comparison = Comparison::new(3);
     for _ in 0..2000 {
-        let query = with_equal_orders(&mut comparison.random);
+        let query = samples::with_equal_orders(&mut comparison.random);
         comparison.compare(&query.write());
     }
     comparison.report("queries with equal orders");
@@ -129,12 +126,8 @@ fn queries_with_equal_orders() {
 #[test]
 fn every_byte_of_the_example_changed() {
     let mut comparison = Comparison::new(4);
-    for place in 0..EXAMPLE_QUERY.len() {
-        for byte in 0..=255 {
-            let mut query = EXAMPLE_QUERY;
-            query[place] = byte;
-            comparison.compare(&query);
-        }
+    for query in samples::each_byte_changed(&trials::example().query, 0..=255) {
+        comparison.compare(&query);
     }
     comparison.report("the example query with a byte changed");
     assert!((0..=6).all(|refusal| comparison.checks.with(refusal) > 0));
@@ -143,13 +136,11 @@ fn every_byte_of_the_example_changed() {
 #[test]
 fn query_sizes_at_and_past_their_limits() {
     let mut comparison = Comparison::new(5);
-    for sizes in choices(QUERY_EDGES) {
-        let mut query = query_of_sizes(&mut comparison.random, sizes);
-        comparison.compare(&query);
-        query.push(255);
-        comparison.compare(&query);
-        query.truncate(query.len() - 2);
-        comparison.compare(&query);
+    for sizes in samples::choices(samples::QUERY_EDGES) {
+        let query = samples::query_of_sizes(&mut comparison.random, sizes);
+        for query in samples::of_nearly_this_length(&query) {
+            comparison.compare(&query);
+        }
         comparison.compare(&sizes);
     }
     comparison.report("query sizes at and past their limits");
@@ -160,9 +151,7 @@ fn query_sizes_at_and_past_their_limits() {
 fn queries_with_random_items() {
     let mut comparison = Comparison::new(6);
     for _ in 0..10_000 {
-        let sizes = [(1, 12), (1, 3), (0, 2), (0, 8), (0, 3)];
-        let sizes = sizes.map(|(least, most)| comparison.random.between(least, most) as u8);
-        let query = query_of_sizes(&mut comparison.random, sizes);
+        let query = samples::nearly_query(&mut comparison.random);
         comparison.compare(&query);
     }
     comparison.report("queries with random items");
@@ -174,17 +163,7 @@ fn queries_with_random_items() {
 #[test]
 fn random_bytes_as_queries() {
     let mut comparison = Comparison::new(7);
-    comparison.compare(&[]);
-    for _ in 0..500 {
-        for length in 1..=6 {
-            let query = any_bytes(&mut comparison.random, length);
-            comparison.compare(&query);
-            let mut small = query;
-            small.iter_mut().for_each(|byte| *byte %= 10);
-            comparison.compare(&small);
-        }
-        let length = comparison.random.below(300);
-        let query = any_bytes(&mut comparison.random, length);
+    for query in samples::assorted_bytes(&mut comparison.random) {
         comparison.compare(&query);
     }
     comparison.report("random bytes as queries");

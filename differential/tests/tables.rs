@@ -2,14 +2,12 @@
 //! implementation give the same states, the same held bits, the same rows and
 //! the same refusals.
 
-use differential::inputs::{any_bytes, choices, damaged, table_of_sizes, TABLE_EDGES};
 use differential::lent::Lent;
 use differential::tally::Tally;
 use differential::{codes, proved};
-use reference::builder::build_table;
 use reference::random::Random;
-use reference::samples::{self, Shape, EXAMPLE_TABLE};
-use reference::table;
+use reference::samples::{self, Shape};
+use reference::{table, trials};
 
 /// A comparison of tables, and what was compared so far.
 struct Comparison {
@@ -101,33 +99,16 @@ impl Comparison {
     }
 }
 
-/// A random table of the right total, most often of few states.
-fn random_table(random: &mut Random) -> Vec<u8> {
-    let most = if random.one_in(10) { 128 } else { 8 };
-    let sizes = [(1, most), (1, 8), (0, 8), (0, 8)];
-    let sizes = sizes.map(|(least, most)| random.between(least, most) as u8);
-    table_of_sizes(random, sizes)
-}
-
-/// Random tables built from queries of a shape.
-fn built_tables(random: &mut Random, shape: Shape, count: usize) -> Vec<Vec<u8>> {
-    let mut tables = Vec::new();
-    while tables.len() < count {
-        let query = samples::query(random, shape);
-        tables.extend(build_table(&query.write()));
-    }
-    tables
-}
-
 #[test]
 fn built_tables_and_damaged_ones() {
     let mut built = Comparison::new(1);
     let mut damages = Comparison::new(2);
     for (shape, count) in [(Shape::SMALL, 3000), (Shape::FULL, 500)] {
-        for table in built_tables(&mut built.random, shape, count) {
+        for _ in 0..count {
+            let (_, table) = samples::query_with_table(&mut built.random, shape);
             built.compare(&table);
             for _ in 0..4 {
-                damages.compare(&damaged(&mut built.random, &table));
+                damages.compare(&samples::damaged(&mut built.random, &table));
             }
         }
     }
@@ -144,7 +125,7 @@ fn built_tables_and_damaged_ones() {
 fn random_tables() {
     let mut comparison = Comparison::new(3);
     for _ in 0..5000 {
-        let table = random_table(&mut comparison.random);
+        let table = samples::any_table(&mut comparison.random);
         comparison.compare(&table);
     }
     comparison.report("random tables");
@@ -159,12 +140,13 @@ fn random_tables() {
 #[test]
 fn tables_with_every_handle() {
     let mut comparison = Comparison::new(4);
-    comparison.compare_with_every_handle(&EXAMPLE_TABLE);
-    for table in built_tables(&mut Random::new(5), Shape::FULL, 30) {
+    comparison.compare_with_every_handle(&trials::example().table);
+    for _ in 0..30 {
+        let (_, table) = samples::query_with_table(&mut comparison.random, Shape::FULL);
         comparison.compare_with_every_handle(&table);
-        let damaged = damaged(&mut comparison.random, &table);
+        let damaged = samples::damaged(&mut comparison.random, &table);
         comparison.compare_with_every_handle(&damaged);
-        let table = random_table(&mut comparison.random);
+        let table = samples::any_table(&mut comparison.random);
         comparison.compare_with_every_handle(&table);
     }
     comparison.report("tables with every handle");
@@ -173,12 +155,8 @@ fn tables_with_every_handle() {
 #[test]
 fn every_byte_of_the_example_table_changed() {
     let mut comparison = Comparison::new(6);
-    for place in 0..EXAMPLE_TABLE.len() {
-        for byte in 0..=255 {
-            let mut table = EXAMPLE_TABLE;
-            table[place] = byte;
-            comparison.compare(&table);
-        }
+    for table in samples::each_byte_changed(&trials::example().table, 0..=255) {
+        comparison.compare(&table);
     }
     comparison.report("the example table with a byte changed");
 }
@@ -186,13 +164,11 @@ fn every_byte_of_the_example_table_changed() {
 #[test]
 fn table_sizes_at_and_past_their_limits() {
     let mut comparison = Comparison::new(7);
-    for sizes in choices(TABLE_EDGES) {
-        let mut table = table_of_sizes(&mut comparison.random, sizes);
-        comparison.compare(&table);
-        table.push(0);
-        comparison.compare(&table);
-        table.truncate(table.len() - 2);
-        comparison.compare(&table);
+    for sizes in samples::choices(samples::TABLE_EDGES) {
+        let table = samples::table_of_sizes(&mut comparison.random, sizes);
+        for table in samples::of_nearly_this_length(&table) {
+            comparison.compare(&table);
+        }
         comparison.compare(&sizes);
     }
     comparison.report("table sizes at and past their limits");
@@ -201,17 +177,7 @@ fn table_sizes_at_and_past_their_limits() {
 #[test]
 fn random_bytes_as_tables() {
     let mut comparison = Comparison::new(8);
-    comparison.compare(&[]);
-    for _ in 0..500 {
-        for length in 1..=6 {
-            let table = any_bytes(&mut comparison.random, length);
-            comparison.compare(&table);
-            let mut small = table;
-            small.iter_mut().for_each(|byte| *byte %= 10);
-            comparison.compare(&small);
-        }
-        let length = comparison.random.below(300);
-        let table = any_bytes(&mut comparison.random, length);
+    for table in samples::assorted_bytes(&mut comparison.random) {
         comparison.compare(&table);
     }
     comparison.report("random bytes as tables");

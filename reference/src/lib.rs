@@ -8,14 +8,22 @@
 //! The way from a query to an answer is: [`query`] reads the description,
 //! [`construction`] finds nodes and states with the steps of [`derivation`],
 //! [`table`] writes them down and looks them up. [`builder`] and [`mod@listing`]
-//! join these. [`model`] answers the same lookups without a table, uncut, and
-//! [`rows`] says what the answers mean for rows. [`random`] and [`samples`]
-//! make repeatable random queries, lists of lookups and rows; [`program`] runs a
-//! listing program.
+//! join these, and [`buffers`] puts what they give into lent buffers. [`model`]
+//! answers the same lookups without a table, uncut, and [`rows`] says what the
+//! answers mean for rows.
+//!
+//! For comparisons, [`implementation`] says what an implementation does,
+//! [`mod@trials`] reads the folder trials/ and puts its trials to one, and
+//! [`mod@lookups`] does so with lists of lookups. [`random`] and [`samples`] make
+//! repeatable random inputs; [`program`] runs a listing program.
 
+#![forbid(unsafe_code)]
+
+pub mod buffers;
 pub mod builder;
 pub mod construction;
 pub mod derivation;
+pub mod implementation;
 pub mod listing;
 pub mod lookups;
 pub mod model;
@@ -27,7 +35,8 @@ pub mod refusal;
 pub mod rows;
 pub mod samples;
 pub mod table;
+pub mod trials;
 
-pub use builder::{build, Built};
+pub use implementation::{Implementation, Reference};
 pub use listing::listing;
 pub use query::{Dependency, Query, Rule};

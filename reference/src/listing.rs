@@ -1,34 +1,41 @@
-//! The listing: a query's construction as text.
+//! The listing: a query's construction as text. Every line ends in a newline.
 
 use crate::construction::Construction;
 use crate::query::Query;
 
 /// The listing of a query's bytes, or one line with the refusal's number. Space
-/// never runs short, so 9 never comes. Every line ends in a newline.
-pub fn listing(query: &[u8]) -> Vec<u8> {
-    let construction = Query::read(query).and_then(|query| Construction::of(&query));
-    let lines = match construction {
-        Ok(construction) => construction_lines(&construction),
-        Err(refusal) => vec![format!("refused {refusal}")],
-    };
-    lines
-        .iter()
-        .flat_map(|line| line.bytes().chain([b'\n']))
-        .collect()
+/// never runs short, so 9 never comes.
+pub fn listing(query: &[u8]) -> String {
+    printed(&lines(query))
 }
 
-fn construction_lines(construction: &Construction) -> Vec<String> {
-    let mut lines = vec![format!(
-        "states {} nodes {}",
-        construction.states.len(),
-        construction.nodes.len()
-    )];
+/// What is printed: a construction's lines, or the line of a refusal.
+pub fn printed(lines: &Result<String, u8>) -> String {
+    match lines {
+        Ok(lines) => lines.clone(),
+        Err(refusal) => format!("refused {refusal}\n"),
+    }
+}
+
+/// The lines of the construction of a query's bytes, or the refusal's number.
+pub fn lines(query: &[u8]) -> Result<String, u8> {
+    let construction = Construction::of(&Query::read(query)?)?;
     let starts = construction.starts.iter().enumerate();
-    lines.extend(starts.map(|(order, state)| format!("start {order} {state}")));
+    let starts = starts.map(|(order, state)| format!("start {order} {state}\n"));
     let rows = construction.successors.iter().zip(&construction.held);
-    lines.extend(rows.enumerate().map(|(state, (successors, held))| {
+    let rows = rows.enumerate().map(|(state, (successors, held))| {
         let next: String = successors.iter().map(|next| format!(" {next}")).collect();
-        format!("state {state} next{next} held {held}")
-    }));
-    lines
+        format!("state {state} next{next} held {held}\n")
+    });
+    Ok([counts(&construction) + "\n"]
+        .into_iter()
+        .chain(starts)
+        .chain(rows)
+        .collect())
+}
+
+/// The counts that a listing begins with.
+pub fn counts(construction: &Construction) -> String {
+    let (states, nodes) = (construction.states.len(), construction.nodes.len());
+    format!("states {states} nodes {nodes}")
 }

@@ -1,8 +1,8 @@
 //! Lists of lookups, answered by a table and answered by the plain model.
 
+use crate::implementation::Implementation;
 use crate::model::Model;
 use crate::query::Query;
-use crate::table;
 
 /// One lookup: its kind and the handle given. The state comes from the lookups
 /// before it.
@@ -27,23 +27,24 @@ pub enum Answer {
     Refused(u8),
 }
 
-/// A table's answers to a list of lookups. A granted entry or take hands its
-/// state to the lookups after it; all others leave the state as it was.
+/// The answers of an implementation's lookups in a table to a list of lookups. A
+/// granted entry or take hands its state to the lookups after it; all others
+/// leave the state as it was.
 ///
 /// # Panics
 ///
 /// When a take or an ask comes before the first granted entry: there is no
 /// state then that could be given to it.
-pub fn table_answers(table: &[u8], lookups: &[Lookup]) -> Vec<Answer> {
+pub fn table_answers<I: Implementation>(table: &[u8], lookups: &[Lookup]) -> Vec<Answer> {
     let mut carried: Option<u8> = None;
     lookups
         .iter()
         .map(|&lookup| {
             let state = || carried.expect("a take or an ask comes after a granted entry");
             let moved = match lookup {
-                Lookup::Enter(produced) => table::enter(table, produced),
-                Lookup::Take(set) => table::take(table, state(), set),
-                Lookup::Ask(order) => return held_answer(table::ask(table, state(), order)),
+                Lookup::Enter(produced) => I::enter(table, produced),
+                Lookup::Take(set) => I::take(table, state(), set),
+                Lookup::Ask(order) => return held_answer(I::ask(table, state(), order)),
             };
             carried = moved.ok().or(carried);
             move_answer(moved)

@@ -34,6 +34,24 @@ pub enum Rule {
     Equal(u8, u8),
 }
 
+impl Rule {
+    /// The kind: of a fix how many left columns it has, of an equal 4.
+    pub fn kind(&self) -> u8 {
+        match self {
+            Self::Fix { left, .. } => left.len() as u8,
+            Self::Equal(..) => EQUAL_KIND,
+        }
+    }
+
+    /// The columns: of a fix the left ones, then the right one.
+    pub fn columns(&self) -> Vec<u8> {
+        match self {
+            Self::Fix { left, right } => [left.as_slice(), &[*right]].concat(),
+            Self::Equal(one, other) => vec![*one, *other],
+        }
+    }
+}
+
 /// A rule and the number of the set it belongs to.
 #[derive(Clone, Debug, PartialEq, Eq)]
 pub struct Dependency {
@@ -137,14 +155,9 @@ impl Query {
         let orders = self
             .interesting()
             .map(|order| (order.len() as u8, order.clone()));
-        let dependencies = self.dependencies.iter().map(|dependency| {
-            let (kind, columns) = match &dependency.rule {
-                Rule::Fix { left, right } => {
-                    (left.len() as u8, [left.as_slice(), &[*right]].concat())
-                }
-                Rule::Equal(one, other) => (EQUAL_KIND, vec![*one, *other]),
-            };
-            (16 * kind + dependency.set, columns)
+        let dependencies = self.dependencies.iter().map(|Dependency { set, rule }| {
+            let head = 16 * rule.kind() + set;
+            (head, rule.columns())
         });
         let (heads, fields): (Vec<u8>, Vec<Vec<u8>>) = orders.chain(dependencies).unzip();
 

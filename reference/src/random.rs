@@ -26,9 +26,9 @@ impl Random {
         (self.number() % limit as u64) as usize
     }
 
-    /// A number from the first to the last, both included.
-    pub fn between(&mut self, first: usize, last: usize) -> usize {
-        first + self.below(last - first + 1)
+    /// A number from the least to the most, both included.
+    pub fn between(&mut self, (least, most): (usize, usize)) -> usize {
+        least + self.below(most - least + 1)
     }
 
     /// True once in so many calls on average.

@@ -76,14 +76,6 @@ pub fn row(table: &[u8], state: u8) -> Result<&[u8], u8> {
     Ok(&table[layout.row_at(state)..][..layout.sets])
 }
 
-/// The state after entering by a produced order and taking some sets in turn.
-pub fn follow(table: &[u8], produced: u8, sets: &[u8]) -> Result<u8, u8> {
-    sets.iter()
-        .try_fold(enter(table, produced)?, |state, &set| {
-            take(table, state, set)
-        })
-}
-
 /// A handle as an index, or 10 when it is not below the count.
 fn handle(number: u8, count: usize) -> Result<usize, u8> {
     let number = usize::from(number);

@@ -7,25 +7,18 @@ use reference::model::Model;
 use reference::random::Random;
 use reference::rows::{obey, stand_in};
 use reference::samples::{self, Shape};
-use reference::{Dependency, Query};
+use reference::{Dependency, Query, Reference};
 
 #[test]
 fn tables_answer_as_the_plain_model_does() {
     let mut random = Random::new(2026);
-    let (mut queries, mut held, mut not_held, mut refused, mut reentries) = (0, 0, 0, 0, 0);
-    while queries < 3000 {
-        let query = samples::query(&mut random, Shape::SMALL);
-        let table = match build_table(&query.write()) {
-            Ok(table) => table,
-            Err(refusal) => {
-                assert_eq!(refusal, 8);
-                continue;
-            }
-        };
-        queries += 1;
+    let queries = 3000;
+    let (mut held, mut not_held, mut refused, mut reentries) = (0, 0, 0, 0);
+    for _ in 0..queries {
+        let (query, table) = samples::query_with_table(&mut random, Shape::SMALL);
         for _ in 0..4 {
             let lookups = samples::lookups(&mut random, &query, 24);
-            let answers = table_answers(&table, &lookups);
+            let answers = table_answers::<Reference>(&table, &lookups);
             assert_eq!(
                 answers,
                 model_answers(&query, &lookups),
@@ -49,13 +42,8 @@ fn tables_answer_as_the_plain_model_does() {
 #[test]
 fn every_order_is_asked_after_every_pair_of_takes() {
     let mut random = Random::new(77);
-    let mut queries = 0;
-    while queries < 500 {
-        let query = samples::query(&mut random, Shape::SMALL);
-        let Ok(table) = build_table(&query.write()) else {
-            continue;
-        };
-        queries += 1;
+    for _ in 0..500 {
+        let (query, table) = samples::query_with_table(&mut random, Shape::SMALL);
         let interesting = (query.produced.len() + query.tested.len()) as u8;
         let mut lookups = Vec::new();
         for produced in 0..query.produced.len() as u8 {
@@ -71,7 +59,7 @@ fn every_order_is_asked_after_every_pair_of_takes() {
             }
         }
         assert_eq!(
-            table_answers(&table, &lookups),
+            table_answers::<Reference>(&table, &lookups),
             model_answers(&query, &lookups),
             "{query:?}"
         );
@@ -116,7 +104,7 @@ fn refused_lookups_leave_the_state_and_the_model_as_they_were() {
         Answer::Held(false),
     ];
     let table = build_table(&query.write()).expect("not refused");
-    assert_eq!(table_answers(&table, &lookups), expected);
+    assert_eq!(table_answers::<Reference>(&table, &lookups), expected);
     assert_eq!(model_answers(&query, &lookups), expected);
 }
 
@@ -150,13 +138,8 @@ fn the_model_keeps_its_start_order_and_list_of_sets() {
 fn held_orders_hold_of_rows_that_stand_in_the_start_order_and_obey_the_sets() {
     let mut random = Random::new(9);
     let (mut held_of_rows, mut not_held_and_false) = (0, 0);
-    let mut queries = 0;
-    while queries < 2000 {
-        let query = samples::query(&mut random, Shape::SMALL);
-        let Ok(table) = build_table(&query.write()) else {
-            continue;
-        };
-        queries += 1;
+    for _ in 0..2000 {
+        let (query, table) = samples::query_with_table(&mut random, Shape::SMALL);
         let mut model = Model::new(&query);
         let produced = random.below(query.produced.len()) as u8;
         let mut lookups = vec![Lookup::Enter(produced)];
@@ -170,7 +153,7 @@ fn held_orders_hold_of_rows_that_stand_in_the_start_order_and_obey_the_sets() {
         }
         let moves = lookups.len();
         lookups.extend((0..query.interesting().count() as u8).map(Lookup::Ask));
-        let answers = table_answers(&table, &lookups);
+        let answers = table_answers::<Reference>(&table, &lookups);
         let start_order = model.start_order().expect("entered");
 
         for _ in 0..4 {

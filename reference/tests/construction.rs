@@ -3,12 +3,12 @@
 use std::collections::{HashMap, HashSet};
 
 use reference::builder::build_table;
-use reference::construction::{Construction, Keep};
+use reference::construction::{Construction, Keep, Limits};
 use reference::derivation::{start, Ordering};
 use reference::model::Model;
 use reference::query::column_set;
 use reference::random::Random;
-use reference::samples::{self, Shape};
+use reference::samples::{self, constants_among_produced, own_column_per_set, Shape};
 use reference::{listing, table, Dependency, Query};
 
 /// Random small queries that are not refused, with their constructions.
@@ -69,7 +69,7 @@ fn with_only_the_empty_order_nothing_is_kept_but_it() {
         dependencies: vec![Dependency::fix(0, &[], 1)],
     };
     let expected = "states 1 nodes 1\nstart 0 0\nstate 0 next 0 held 1\n";
-    assert_eq!(listing(&query.write()), expected.as_bytes());
+    assert_eq!(listing(&query.write()), expected);
 }
 
 #[test]
@@ -84,6 +84,31 @@ fn a_state_that_is_a_start_keeps_its_number() {
     let construction = Construction::of(&query).expect("within the limits");
     assert_eq!(construction.starts, [0, 1]);
     assert_eq!(construction.successors, [[1], [1]]);
+}
+
+/// How many states and nodes a query has, and the refusal of its construction.
+fn counted(query: &Query) -> (usize, usize, Option<u8>) {
+    let counted = Construction::within(query, Limits::COUNTING).expect("countable");
+    let refusal = Construction::of(query).err();
+    (counted.states.len(), counted.nodes.len(), refusal)
+}
+
+#[test]
+fn states_are_refused_past_128_exactly() {
+    let mut query = own_column_per_set(7);
+    assert_eq!(counted(&query), (128, 9, None));
+    query.produced.push(vec![]);
+    assert_eq!(counted(&query), (129, 9, Some(8)));
+}
+
+#[test]
+fn nodes_are_refused_past_256_exactly() {
+    let nodes = |triples| {
+        let (_, nodes, refusal) = counted(&constants_among_produced(triples));
+        (nodes, refusal)
+    };
+    assert_eq!(nodes(2), (256, None));
+    assert_eq!(nodes(3), (257, Some(7)));
 }
 
 #[test]
@@ -185,11 +210,8 @@ fn table_and_listing_say_the_same() {
         let bytes = query.write();
         let table = build_table(&bytes).expect("not refused");
         assert_eq!(table::check(&table), Ok(()));
-        let mut lines = vec![format!(
-            "states {} nodes {}",
-            table[0],
-            construction.nodes.len()
-        )];
+        let nodes = construction.nodes.len();
+        let mut lines = vec![format!("states {} nodes {nodes}", table[0])];
         for produced in 0..query.produced.len() as u8 {
             let state = table::enter(&table, produced).expect("granted");
             lines.push(format!("start {produced} {state}"));
@@ -205,6 +227,6 @@ fn table_and_listing_say_the_same() {
             lines.push(words.join(" "));
         }
         let expected = lines.join("\n") + "\n";
-        assert_eq!(listing(&bytes), expected.as_bytes());
+        assert_eq!(listing(&bytes), expected);
     }
 }

@@ -2,8 +2,7 @@
 
 use std::path::Path;
 
-use reference::program;
-use reference::samples::{EXAMPLE_LISTING, EXAMPLE_QUERY};
+use reference::{program, trials};
 
 /// What the program prints for a query on standard input.
 fn printed(query: &[u8]) -> String {
@@ -12,11 +11,13 @@ fn printed(query: &[u8]) -> String {
 
 #[test]
 fn prints_the_example() {
-    assert_eq!(printed(&EXAMPLE_QUERY), EXAMPLE_LISTING);
+    let example = trials::example();
+    assert_eq!(printed(&example.query), example.listing());
 }
 
 #[test]
 fn prints_a_refusal() {
+    let refused = trials::named("eight_sets");
+    assert_eq!(printed(&refused.query), refused.listing());
     assert_eq!(printed(&[]), "refused 1\n");
-    assert_eq!(printed(&[13, 1, 0, 0, 0]), "refused 2\n");
 }

@@ -1,24 +1,30 @@
-//! The refusals of a query and of a build, and the buffers afterwards.
+//! The refusals of a query, of a build and of a listing, and the buffers
+//! afterwards.
 
-use reference::builder::{build_table, SCRATCH_BYTES};
+use std::sync::LazyLock;
+
+use reference::buffers::SCRATCH_BYTES;
+use reference::builder::build_table;
 use reference::random::Random;
-use reference::samples::{self, Shape, EXAMPLE_QUERY, EXAMPLE_TABLE};
-use reference::{build, listing, Built, Dependency, Query};
+use reference::samples::{self, Shape};
+use reference::{listing, trials, Dependency, Implementation, Query, Reference};
+
+/// The example's bytes.
+static EXAMPLE: LazyLock<Vec<u8>> = LazyLock::new(|| trials::example().query);
 
 /// The number that reading a query refuses it with, or none. The listing must
 /// refuse it with the same number.
 fn refusal(query: &[u8]) -> Option<u8> {
     let refusal = Query::read(query).err();
     if let Some(number) = refusal {
-        let line = format!("refused {number}\n");
-        assert_eq!(listing(query), line.as_bytes());
+        assert_eq!(listing(query), format!("refused {number}\n"));
     }
     refusal
 }
 
 /// The example with one byte changed.
 fn example_with(place: usize, byte: u8) -> Vec<u8> {
-    let mut query = EXAMPLE_QUERY.to_vec();
+    let mut query = EXAMPLE.clone();
     query[place] = byte;
     query
 }
@@ -52,21 +58,21 @@ fn largest() -> Query {
 #[test]
 fn fewer_bytes_than_the_sizes_take_give_1() {
     for length in 0..5 {
-        assert_eq!(refusal(&EXAMPLE_QUERY[..length]), Some(1));
+        assert_eq!(refusal(&EXAMPLE[..length]), Some(1));
         assert_eq!(refusal(&vec![255; length]), Some(1));
     }
 }
 
 #[test]
 fn a_total_other_than_implied_gives_1() {
-    for length in 5..EXAMPLE_QUERY.len() {
-        assert_eq!(refusal(&EXAMPLE_QUERY[..length]), Some(1));
+    for length in 5..EXAMPLE.len() {
+        assert_eq!(refusal(&EXAMPLE[..length]), Some(1));
     }
     for more in 1..6 {
-        let longer = [&EXAMPLE_QUERY[..], &vec![0; more]].concat();
+        let longer = [&EXAMPLE[..], &vec![0; more]].concat();
         assert_eq!(refusal(&longer), Some(1));
     }
-    assert_eq!(refusal(&EXAMPLE_QUERY), None);
+    assert_eq!(refusal(&EXAMPLE), None);
 }
 
 #[test]
@@ -299,7 +305,7 @@ fn an_earlier_item_is_refused_before_a_later_one() {
         for later in earlier + 1..6 {
             for earlier_fault in 3..=5 {
                 for later_fault in 3..=5 {
-                    let mut query = EXAMPLE_QUERY.to_vec();
+                    let mut query = EXAMPLE.clone();
                     spoil(&mut query, earlier, earlier_fault);
                     spoil(&mut query, later, later_fault);
                     assert_eq!(refusal(&query), Some(earlier_fault));
@@ -311,7 +317,7 @@ fn an_earlier_item_is_refused_before_a_later_one() {
 
 #[test]
 fn twins_are_refused_after_all_items() {
-    let mut query = Query::read(&EXAMPLE_QUERY).expect("not refused");
+    let mut query = Query::read(&EXAMPLE).expect("not refused");
     query.tested[0] = query.produced[0].clone();
     assert_eq!(refusal(&query.write()), Some(6));
     for (dependency, expected) in [
@@ -324,33 +330,46 @@ fn twins_are_refused_after_all_items() {
     }
 }
 
-/// Builds with a scratch and an output of these lengths, full of marks, and
-/// checks the bytes of both afterwards against the outcome.
-fn build_with(query: &[u8], scratch: usize, output: usize) -> Result<Built, u8> {
+/// A build or a listing.
+type Call = fn(&[u8], &mut [u8], &mut [u8]) -> Result<usize, u8>;
+
+/// Builds or lists a query that comes out so when there is room, with a scratch
+/// and an output of these lengths, full of marks. Checks the bytes of both
+/// afterwards against the outcome.
+fn lend(
+    query: &[u8],
+    scratch: usize,
+    output: usize,
+    call: Call,
+    whole: &[u8],
+) -> Result<usize, u8> {
     let marks = |length: usize| (0..length).map(|at| (at % 251) as u8 + 1).collect();
     let (scratch_before, output_before): (Vec<u8>, Vec<u8>) = (marks(scratch), marks(output));
     let (mut scratch, mut output) = (scratch_before.clone(), output_before.clone());
-    let built = build(query, &mut scratch, &mut output);
+    let outcome = call(query, &mut scratch, &mut output);
 
-    let read = Query::read(query);
-    let table = match built {
-        Ok(Built { length, .. }) => {
-            let table = build_table(query).expect("not refused");
-            assert_eq!(length, table.len());
-            table
-        }
-        Err(_) => Vec::new(),
-    };
-    assert_eq!(output[..table.len()], table);
-    assert_eq!(output[table.len()..], output_before[table.len()..]);
+    let written = outcome.unwrap_or(0);
+    assert_eq!(output[..written], whole[..written]);
+    assert!(outcome.is_err() || written == whole.len());
+    assert_eq!(output[written..], output_before[written..]);
 
-    let cleared = match read.is_ok() && scratch.len() >= SCRATCH_BYTES {
+    let cleared = match Query::read(query).is_ok() && scratch.len() >= SCRATCH_BYTES {
         true => SCRATCH_BYTES,
         false => 0,
     };
     assert!(scratch[..cleared].iter().all(|&byte| byte == 0));
     assert_eq!(scratch[cleared..], scratch_before[cleared..]);
-    built
+    outcome
+}
+
+fn build_with(query: &[u8], scratch: usize, output: usize) -> Result<usize, u8> {
+    let table = build_table(query).unwrap_or_default();
+    lend(query, scratch, output, Reference::build, &table)
+}
+
+fn list_with(query: &[u8], scratch: usize, text: usize) -> Result<usize, u8> {
+    let listing = listing(query);
+    lend(query, scratch, text, Reference::list, listing.as_bytes())
 }
 
 /// More than 256 nodes, and more than 128 states when nodes are not counted.
@@ -367,24 +386,40 @@ fn too_many_nodes() -> Vec<u8> {
 
 /// 256 states of few nodes.
 fn too_many_states() -> Vec<u8> {
-    let query = Query {
-        columns: 9,
-        produced: vec![vec![0]],
-        tested: (1..9).map(|column| vec![0, column]).collect(),
-        sets: 8,
-        dependencies: (0..8)
-            .map(|set| Dependency::fix(set, &[0], set + 1))
-            .collect(),
-    };
-    query.write()
+    trials::named("eight_sets").query
 }
+
+/// Queries that the checks 1 to 6 refuse, each with its number.
+fn refused_on_reading() -> Vec<(Vec<u8>, u8)> {
+    let twins = Query {
+        columns: 1,
+        produced: vec![vec![0], vec![0]],
+        tested: vec![],
+        sets: 0,
+        dependencies: vec![],
+    };
+    vec![
+        (EXAMPLE[..4].to_vec(), 1),
+        (example_with(0, 13), 2),
+        (EXAMPLE[..34].to_vec(), 1),
+        (one_order(2, 5, [255; 4]), 3),
+        (one_order(2, 1, [2, 255, 255, 255]), 4),
+        (one_order(2, 2, [0, 0, 255, 255]), 5),
+        (twins.write(), 6),
+    ]
+}
+
+/// Lengths of scratch that are too short, and ones that are not.
+const SHORT_SCRATCH: [usize; 3] = [0, 1, 16_383];
+const LONG_SCRATCH: [usize; 3] = [16_384, 16_385, 20_000];
 
 #[test]
 fn scratch_below_its_length_gives_9_before_anything_is_constructed() {
-    for query in [&EXAMPLE_QUERY[..], &too_many_nodes(), &too_many_states()] {
-        for scratch in [0, 1, 16_383] {
+    for query in [EXAMPLE.clone(), too_many_nodes(), too_many_states()] {
+        for scratch in SHORT_SCRATCH {
             for output in [0, 26, 2048] {
-                assert_eq!(build_with(query, scratch, output), Err(9));
+                assert_eq!(build_with(&query, scratch, output), Err(9));
+                assert_eq!(list_with(&query, scratch, output), Err(9));
             }
         }
     }
@@ -392,7 +427,7 @@ fn scratch_below_its_length_gives_9_before_anything_is_constructed() {
 
 #[test]
 fn nodes_are_refused_before_states_and_states_before_output() {
-    for scratch in [16_384, 16_385, 20_000] {
+    for scratch in LONG_SCRATCH {
         for output in [0, 2048] {
             assert_eq!(build_with(&too_many_nodes(), scratch, output), Err(7));
             assert_eq!(build_with(&too_many_states(), scratch, output), Err(8));
@@ -402,44 +437,42 @@ fn nodes_are_refused_before_states_and_states_before_output() {
 
 #[test]
 fn output_shorter_than_the_table_gives_9() {
-    let built = Built {
-        length: 26,
-        nodes: 10,
-        states: 5,
-    };
-    for scratch in [16_384, 16_385, 20_000] {
-        for output in 0..26 {
-            assert_eq!(build_with(&EXAMPLE_QUERY, scratch, output), Err(9));
+    let trial = trials::example();
+    let length = trial.table.len();
+    for scratch in LONG_SCRATCH {
+        for output in 0..length {
+            assert_eq!(build_with(&trial.query, scratch, output), Err(9));
         }
-        for output in [26, 27, 2048] {
-            assert_eq!(build_with(&EXAMPLE_QUERY, scratch, output), Ok(built));
+        for output in [length, length + 1, 2048] {
+            assert_eq!(build_with(&trial.query, scratch, output), Ok(length));
         }
     }
-    assert_eq!(EXAMPLE_TABLE.len(), 26);
 }
 
 #[test]
-fn a_query_refused_on_reading_leaves_both_buffers() {
-    let twins = Query {
-        columns: 1,
-        produced: vec![vec![0], vec![0]],
-        tested: vec![],
-        sets: 0,
-        dependencies: vec![],
-    };
-    let refused = [
-        (EXAMPLE_QUERY[..4].to_vec(), 1),
-        (example_with(0, 13), 2),
-        (EXAMPLE_QUERY[..34].to_vec(), 1),
-        (one_order(2, 5, [255; 4]), 3),
-        (one_order(2, 1, [2, 255, 255, 255]), 4),
-        (one_order(2, 2, [0, 0, 255, 255]), 5),
-        (twins.write(), 6),
-    ];
-    for (query, number) in refused {
-        for scratch in [0, 16_383, 16_384, 20_000] {
-            for output in [0, 2048] {
+fn text_shorter_than_what_is_printed_gives_9() {
+    for query in [EXAMPLE.clone(), too_many_nodes(), too_many_states()] {
+        let length = listing(&query).len();
+        for scratch in LONG_SCRATCH {
+            for text in 0..length {
+                assert_eq!(list_with(&query, scratch, text), Err(9));
+            }
+            for text in [length, length + 1, 2048] {
+                assert_eq!(list_with(&query, scratch, text), Ok(length));
+            }
+        }
+    }
+}
+
+#[test]
+fn a_query_refused_on_reading_leaves_the_scratch_and_is_printed_when_there_is_room() {
+    let line = "refused 1\n".len();
+    for (query, number) in refused_on_reading() {
+        for scratch in [SHORT_SCRATCH, LONG_SCRATCH].concat() {
+            for output in [0, line - 1, line, 2048] {
                 assert_eq!(build_with(&query, scratch, output), Err(number));
+                let listed = if output < line { Err(9) } else { Ok(line) };
+                assert_eq!(list_with(&query, scratch, output), listed);
             }
         }
     }
@@ -461,20 +494,13 @@ fn random_queries_of_all_sizes_read_back_and_build() {
 }
 
 #[test]
-fn spoilt_bytes_are_refused_or_read_as_they_stand() {
+fn damaged_bytes_are_refused_or_read_as_they_stand() {
     let mut random = Random::new(42);
     for _ in 0..20_000 {
-        let mut bytes = samples::query(&mut random, Shape::SMALL).write();
-        for _ in 0..random.between(1, 3) {
-            let place = random.below(bytes.len());
-            bytes[place] = match random.below(3) {
-                0 => random.below(6) as u8,
-                1 => 255,
-                _ => random.below(256) as u8,
-            };
-        }
-        if let Ok(query) = Query::read(&bytes) {
-            assert_eq!(query.write(), bytes);
+        let bytes = samples::query(&mut random, Shape::SMALL).write();
+        let damaged = samples::damaged(&mut random, &bytes);
+        if let Ok(query) = Query::read(&damaged) {
+            assert_eq!(query.write(), damaged);
         }
     }
 }

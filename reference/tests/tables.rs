@@ -1,17 +1,21 @@
 //! The table check and the lookups, on good tables and on damaged ones.
 
-use reference::builder::build_table;
-use reference::samples::EXAMPLE_TABLE;
-use reference::table::{ask, check, enter, follow, row, take};
-use reference::{Dependency, Query};
+use std::ops::Range;
+use std::sync::LazyLock;
 
-const STARTS: std::ops::Range<usize> = 4..6;
-const SUCCESSORS: std::ops::Range<usize> = 6..16;
+use reference::builder::build_table;
+use reference::table::{ask, check, enter, row, take};
+use reference::{trials, Dependency, Implementation, Query, Reference};
+
+/// The example's table, and places in it.
+static EXAMPLE: LazyLock<Vec<u8>> = LazyLock::new(|| trials::example().table);
+const STARTS: Range<usize> = 4..6;
+const SUCCESSORS: Range<usize> = 6..16;
 const STATES: u8 = 5;
 
 /// The example's table with one byte changed.
-fn table_with(place: usize, byte: u8) -> [u8; 26] {
-    let mut table = EXAMPLE_TABLE;
+fn table_with(place: usize, byte: u8) -> Vec<u8> {
+    let mut table = EXAMPLE.clone();
     table[place] = byte;
     table
 }
@@ -35,38 +39,41 @@ fn form_refusal(table: &[u8]) -> Option<u8> {
 }
 
 #[test]
-fn the_example_table_passes_and_answers() {
-    assert_eq!(check(&EXAMPLE_TABLE), Ok(()));
-    assert_eq!(enter(&EXAMPLE_TABLE, 0), Ok(0));
-    assert_eq!(enter(&EXAMPLE_TABLE, 1), Ok(1));
-    let rows = [[2, 0], [1, 3], [2, 4], [3, 3], [4, 4]];
-    let held = [1, 2, 5, 10, 5];
-    for state in 0..STATES {
-        let successors = rows[usize::from(state)];
-        assert_eq!(row(&EXAMPLE_TABLE, state), Ok(&successors[..]));
-        assert_eq!(take(&EXAMPLE_TABLE, state, 0), Ok(successors[0]));
-        assert_eq!(take(&EXAMPLE_TABLE, state, 1), Ok(successors[1]));
-        for order in 0..4 {
-            let bit = held[usize::from(state)] >> order & 1 == 1;
-            assert_eq!(ask(&EXAMPLE_TABLE, state, order), Ok(bit));
+fn the_example_table_passes_and_answers_as_its_listing_says() {
+    assert_eq!(check(&EXAMPLE), Ok(()));
+    for line in trials::example().lines {
+        let numbers = line.split(' ').filter_map(|word| word.parse().ok());
+        match numbers.collect::<Vec<u8>>()[..] {
+            [produced, state] if line.starts_with("start ") => {
+                assert_eq!(enter(&EXAMPLE, produced), Ok(state));
+            }
+            [state, first, second, held] => {
+                assert_eq!(row(&EXAMPLE, state), Ok(&[first, second][..]));
+                assert_eq!(take(&EXAMPLE, state, 0), Ok(first));
+                assert_eq!(take(&EXAMPLE, state, 1), Ok(second));
+                for order in 0..4 {
+                    let bit = held >> order & 1 == 1;
+                    assert_eq!(ask(&EXAMPLE, state, order), Ok(bit));
+                }
+            }
+            _ => assert!(line.starts_with("states ")),
         }
     }
-    assert_eq!(follow(&EXAMPLE_TABLE, 0, &[0, 1, 0]), Ok(4));
 }
 
 #[test]
 fn a_row_is_that_part_of_the_lent_table() {
     for state in 0..STATES {
-        let row = row(&EXAMPLE_TABLE, state).expect("granted");
+        let row = row(&EXAMPLE, state).expect("granted");
         let place = 6 + 2 * usize::from(state);
-        assert!(std::ptr::eq(row, &EXAMPLE_TABLE[place..place + 2]));
+        assert!(std::ptr::eq(row, &EXAMPLE[place..place + 2]));
     }
 }
 
 #[test]
 fn fewer_bytes_than_the_sizes_take_give_1() {
     for length in 0..4 {
-        assert_eq!(form_refusal(&EXAMPLE_TABLE[..length]), Some(1));
+        assert_eq!(form_refusal(&EXAMPLE[..length]), Some(1));
         assert_eq!(form_refusal(&vec![255; length]), Some(1));
     }
 }
@@ -74,11 +81,11 @@ fn fewer_bytes_than_the_sizes_take_give_1() {
 #[test]
 fn a_total_other_than_implied_gives_1() {
     for length in 4..26 {
-        assert_eq!(form_refusal(&EXAMPLE_TABLE[..length]), Some(1));
+        assert_eq!(form_refusal(&EXAMPLE[..length]), Some(1));
     }
-    let longer = [&EXAMPLE_TABLE[..], &[0]].concat();
+    let longer = [&EXAMPLE[..], &[0]].concat();
     assert_eq!(form_refusal(&longer), Some(1));
-    assert_eq!(form_refusal(&EXAMPLE_TABLE), None);
+    assert_eq!(form_refusal(&EXAMPLE), None);
 }
 
 #[test]
@@ -115,7 +122,7 @@ fn past_interesting(place: usize) -> u8 {
 
 /// What the check gives for the example's table with one byte changed.
 fn expected_check(place: usize, byte: u8) -> Result<(), u8> {
-    let unchanged = EXAMPLE_TABLE[place] == byte;
+    let unchanged = EXAMPLE[place] == byte;
     match place {
         0 if byte == 0 || byte > 128 => Err(2),
         1 if byte == 0 || byte > 8 => Err(2),
@@ -165,12 +172,12 @@ fn held_bits_may_be_as_many_as_interesting_orders() {
 fn handles_not_in_the_table_give_10() {
     for handle in 0..=255 {
         let expected = |count: u8| (handle >= count).then_some(10);
-        assert_eq!(enter(&EXAMPLE_TABLE, handle).err(), expected(2));
-        assert_eq!(take(&EXAMPLE_TABLE, handle, 0).err(), expected(STATES));
-        assert_eq!(take(&EXAMPLE_TABLE, 0, handle).err(), expected(2));
-        assert_eq!(ask(&EXAMPLE_TABLE, handle, 0).err(), expected(STATES));
-        assert_eq!(ask(&EXAMPLE_TABLE, 0, handle).err(), expected(4));
-        assert_eq!(row(&EXAMPLE_TABLE, handle).err(), expected(STATES));
+        assert_eq!(enter(&EXAMPLE, handle).err(), expected(2));
+        assert_eq!(take(&EXAMPLE, handle, 0).err(), expected(STATES));
+        assert_eq!(take(&EXAMPLE, 0, handle).err(), expected(2));
+        assert_eq!(ask(&EXAMPLE, handle, 0).err(), expected(STATES));
+        assert_eq!(ask(&EXAMPLE, 0, handle).err(), expected(4));
+        assert_eq!(row(&EXAMPLE, handle).err(), expected(STATES));
     }
 }
 
@@ -191,15 +198,15 @@ fn an_entry_gives_11_for_the_start_it_reads_alone() {
             for produced in 0..2 {
                 let expected = match 4 + usize::from(produced) == place {
                     true => Err(11),
-                    false => enter(&EXAMPLE_TABLE, produced),
+                    false => enter(&EXAMPLE, produced),
                 };
                 assert_eq!(enter(&table, produced), expected);
             }
             assert_eq!(enter(&table, 2), Err(10));
             for state in 0..STATES {
-                assert_eq!(take(&table, state, 1), take(&EXAMPLE_TABLE, state, 1));
-                assert_eq!(ask(&table, state, 2), ask(&EXAMPLE_TABLE, state, 2));
-                assert_eq!(row(&table, state), row(&EXAMPLE_TABLE, state));
+                assert_eq!(take(&table, state, 1), take(&EXAMPLE, state, 1));
+                assert_eq!(ask(&table, state, 2), ask(&EXAMPLE, state, 2));
+                assert_eq!(row(&table, state), row(&EXAMPLE, state));
             }
         }
     }
@@ -215,12 +222,12 @@ fn a_take_gives_11_for_the_successor_it_reads_alone() {
                     let read = 6 + 2 * usize::from(state) + usize::from(set);
                     let expected = match read == place {
                         true => Err(11),
-                        false => take(&EXAMPLE_TABLE, state, set),
+                        false => take(&EXAMPLE, state, set),
                     };
                     assert_eq!(take(&table, state, set), expected);
                 }
                 assert_eq!(take(&table, state, 2), Err(10));
-                assert_eq!(ask(&table, state, 0), ask(&EXAMPLE_TABLE, state, 0));
+                assert_eq!(ask(&table, state, 0), ask(&EXAMPLE, state, 0));
                 let from = 6 + 2 * usize::from(state);
                 assert_eq!(row(&table, state), Ok(&table[from..from + 2]));
             }
@@ -231,18 +238,18 @@ fn a_take_gives_11_for_the_successor_it_reads_alone() {
 
 #[test]
 fn bits_past_the_interesting_orders_are_no_matter_to_lookups() {
-    let mut table = EXAMPLE_TABLE;
+    let mut table = EXAMPLE.clone();
     for (place, byte) in table.iter_mut().enumerate().skip(16) {
         *byte |= past_interesting(place);
     }
     assert_eq!(check(&table), Err(11));
     for state in 0..STATES {
         for order in 0..4 {
-            assert_eq!(ask(&table, state, order), ask(&EXAMPLE_TABLE, state, order));
+            assert_eq!(ask(&table, state, order), ask(&EXAMPLE, state, order));
         }
         assert_eq!(ask(&table, state, 4), Err(10));
-        assert_eq!(row(&table, state), row(&EXAMPLE_TABLE, state));
-        assert_eq!(take(&table, state, 0), take(&EXAMPLE_TABLE, state, 0));
+        assert_eq!(row(&table, state), row(&EXAMPLE, state));
+        assert_eq!(take(&table, state, 0), take(&EXAMPLE, state, 0));
     }
 }
 
@@ -262,7 +269,7 @@ fn all_sixteen_held_bits_are_used() {
     let table = build_table(&query.write()).expect("not refused");
     assert_eq!(check(&table), Ok(()));
     for produced in 0..8 {
-        let state = follow(&table, produced, &[0]).expect("granted");
+        let state = Reference::follow(&table, produced, &[0]).expect("granted");
         for order in 0..16 {
             assert_eq!(ask(&table, state, order), Ok(true));
         }

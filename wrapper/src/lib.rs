@@ -48,15 +48,20 @@ pub struct StateNumber(pub u8);
 /// length.
 ///
 /// On refusal the output keeps its bytes, and those past the table always keep
-/// theirs. Once the query's checks 1 to 6 and the scratch length have passed,
-/// the scratch's first [`SCRATCH_BYTES`] bytes are 0 afterwards.
+/// theirs. Once the checks 1 to 6 and the scratch length have passed, the
+/// scratch's first [`SCRATCH_BYTES`] bytes are 0 afterwards, refused or not; all
+/// others keep theirs.
 pub fn build(query: &[u8], scratch: &mut [u8], output: &mut [u8]) -> Result<usize, Refusal> {
     value(raw::table_build(query, scratch, output)).map(usize::from)
 }
 
-/// Writes the listing of a query, or the line that says how it is refused, into
-/// the text's first bytes, and gives its length. Refuses only with
-/// [`Refusal::Space`].
+/// Writes the listing of a query, or the line that says how it is refused with 1
+/// to 8, into the text's first bytes, and gives the length of what is written.
+///
+/// Refuses only with [`Refusal::Space`]: for scratch, after the checks 1 to 6,
+/// so that a query that they refuse needs none, and for text. On refusal the text
+/// keeps its bytes, and those past what is written always keep theirs. The
+/// scratch is afterwards as [`build`] leaves it.
 pub fn list(query: &[u8], scratch: &mut [u8], text: &mut [u8]) -> Result<usize, Refusal> {
     value(raw::table_list(query, scratch, text)).map(usize::from)
 }

@@ -45,17 +45,19 @@ extern "C" {
 // which is lent for the whole call. The function only reads what is lent as
 // `&[u8]`. Slices lent as `&mut [u8]` overlap no other.
 
-/// The query's own checks: the refusal.
+/// The checks 1 to 6 of a query: the refusal.
 pub fn query_check(query: &[u8]) -> u32 {
     unsafe { order_query_check(query.as_ptr(), query.len()) }
 }
 
-/// Interesting order i of a query.
+/// Interesting order i of a query that passes the checks 1 to 6: its length in
+/// the lowest byte, then its columns, a byte each.
 pub fn query_order(query: &[u8], i: u8) -> u64 {
     unsafe { order_query_order(query.as_ptr(), query.len(), i) }
 }
 
-/// Dependency i of a query.
+/// Dependency i of a query that passes the checks 1 to 6: its set in the lowest
+/// byte, its kind in the next one, then its columns, a byte each.
 pub fn query_dependency(query: &[u8], i: u8) -> u64 {
     unsafe { order_query_dependency(query.as_ptr(), query.len(), i) }
 }
@@ -121,7 +123,7 @@ pub fn table_replay(
     }
 }
 
-/// Listing a query into the text's first bytes: the listing's length.
+/// Listing a query into the text's first bytes: the length of what is written.
 pub fn table_list(query: &[u8], scratch: &mut [u8], text: &mut [u8]) -> u32 {
     unsafe {
         order_table_list(

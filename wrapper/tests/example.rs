@@ -1,79 +1,90 @@
-//! The types on the query of examples/first.query.
+//! The types on the listing's example, and on trials that are refused.
 
 use order_tables::{build, list, OrderHandle, Refusal, SetHandle, StateNumber, Table};
 use order_tables::{LISTING_BYTES, LONGEST_TABLE, SCRATCH_BYTES};
+use reference::trials;
 
-const QUERY: &[u8] = include_bytes!("../../examples/first.query");
-
-fn table() -> Vec<u8> {
-    let mut output = vec![0; LONGEST_TABLE];
-    let length = build(QUERY, &mut [0; SCRATCH_BYTES], &mut output);
-    output.truncate(length.expect("the query has a table"));
-    output
+fn build_in(query: &[u8], scratch: usize, output: usize) -> Result<usize, Refusal> {
+    build(query, &mut vec![0; scratch], &mut vec![0; output])
 }
 
 #[test]
 fn builds_and_looks_up() {
-    let bytes = table();
-    let table = Table::new(&bytes);
+    let example = trials::example();
+    let mut output = [0; LONGEST_TABLE];
+    let length = build(&example.query, &mut [0; SCRATCH_BYTES], &mut output);
+    assert_eq!(length, Ok(example.table.len()));
+    let bytes = &output[..example.table.len()];
+    assert_eq!(bytes, example.table);
+
+    // Four sizes, two starts, five rows of two successors, five times two bytes
+    // of held bits.
+    let table = Table::new(bytes);
     assert_eq!(table.check(), Ok(()));
-    assert_eq!(table.enter(OrderHandle(1)), Ok(StateNumber(1)));
-    assert_eq!(table.take(StateNumber(1), SetHandle(1)), Ok(StateNumber(3)));
-    assert_eq!(table.ask(StateNumber(3), OrderHandle(3)), Ok(true));
-    assert_eq!(table.ask(StateNumber(3), OrderHandle(0)), Ok(false));
-    assert_eq!(table.row(StateNumber(2)), Ok(&bytes[10..12]));
+    let start = table.enter(OrderHandle(1));
+    assert_eq!(start, Ok(StateNumber(bytes[5])));
+    let next = table.take(StateNumber(1), SetHandle(1));
+    assert_eq!(next, Ok(StateNumber(bytes[9])));
+    for order in 0..4 {
+        let held = table.ask(StateNumber(3), OrderHandle(order));
+        assert_eq!(held, Ok(bytes[22] >> order & 1 == 1));
+    }
+    let row = table.row(StateNumber(2));
+    assert_eq!(row, Ok(&bytes[10..12]));
 }
 
 #[test]
 fn lists() {
-    let mut text = [0; LISTING_BYTES];
-    let length = list(QUERY, &mut [0; SCRATCH_BYTES], &mut text).expect("there is room");
-    assert!(text[..length].starts_with(b"states 5 nodes 10\nstart 0 0\n"));
-    assert!(text[..length].ends_with(b"state 4 next 4 4 held 5\n"));
-    let length = list(&QUERY[..4], &mut [0; SCRATCH_BYTES], &mut text);
-    assert_eq!(&text[..length.expect("there is room")], b"refused 1\n");
+    for trial in [trials::example(), trials::named("four_bytes")] {
+        let mut text = [0; LISTING_BYTES];
+        let length = list(&trial.query, &mut [0; SCRATCH_BYTES], &mut text);
+        let length = length.expect("there is room");
+        assert_eq!(&text[..length], trial.listing().as_bytes());
+    }
 }
 
 #[test]
-fn refuses() {
-    let build_in = |query: &[u8], scratch: usize, output: usize| {
-        build(query, &mut vec![0; scratch], &mut vec![0; output])
-    };
-    assert_eq!(build_in(QUERY, SCRATCH_BYTES, 26), Ok(26));
-    assert_eq!(build_in(QUERY, SCRATCH_BYTES, 25), Err(Refusal::Space));
-    assert_eq!(build_in(QUERY, SCRATCH_BYTES - 1, 26), Err(Refusal::Space));
-    assert_eq!(build_in(&QUERY[..4], 0, 0), Err(Refusal::Length));
-    assert_eq!(build_in(&[13, 1, 0, 0, 0], 0, 0), Err(Refusal::Size));
-    assert_eq!(
-        build_in(&[2, 1, 0, 0, 0, 5, 0, 1, 0, 1], 0, 0),
-        Err(Refusal::Item)
-    );
-    assert_eq!(
-        build_in(&[2, 1, 0, 0, 0, 1, 2, 255, 255, 255], 0, 0),
-        Err(Refusal::Column)
-    );
-    assert_eq!(
-        build_in(&[2, 1, 0, 0, 0, 2, 0, 0, 255, 255], 0, 0),
-        Err(Refusal::Repeat)
-    );
+fn refuses_queries() {
+    for (name, refusal) in [
+        ("four_bytes", Refusal::Length),
+        ("thirteen_columns", Refusal::Size),
+        ("column_n", Refusal::Column),
+        ("repeated_column", Refusal::Repeat),
+        ("seven_constants", Refusal::Orderings),
+        ("eight_sets", Refusal::States),
+    ] {
+        let trial = trials::named(name);
+        assert_eq!(refusal.to_string(), trial.lines[0], "trial {name}");
+        let built = build_in(&trial.query, SCRATCH_BYTES, LONGEST_TABLE);
+        assert_eq!(built, Err(refusal), "trial {name}");
+    }
+    let long_order = [2, 1, 0, 0, 0, 5, 0, 1, 0, 1];
+    assert_eq!(build_in(&long_order, 0, 0), Err(Refusal::Item));
     let twins = [1, 1, 1, 0, 0, 1, 1, 0, 255, 255, 255, 0, 255, 255, 255];
     assert_eq!(build_in(&twins, 0, 0), Err(Refusal::Twin));
+}
 
-    let mut bytes = table();
-    let table = Table::new(&bytes);
-    assert_eq!(table.enter(OrderHandle(2)), Err(Refusal::Handle));
-    assert_eq!(
-        table.take(StateNumber(0), SetHandle(2)),
-        Err(Refusal::Handle)
-    );
-    assert_eq!(table.row(StateNumber(5)), Err(Refusal::Handle));
-    bytes[6] = 5;
+#[test]
+fn refuses_space_and_handles_and_rows() {
+    let example = trials::example();
+    let (query, length) = (&example.query, example.table.len());
+    for (scratch, output) in [(SCRATCH_BYTES - 1, length), (SCRATCH_BYTES, length - 1)] {
+        assert_eq!(build_in(query, scratch, output), Err(Refusal::Space));
+    }
+
+    let &[states, produced, _, sets] = example.table.first_chunk().expect("it has sizes");
+    let table = Table::new(&example.table);
+    let entered = table.enter(OrderHandle(produced));
+    assert_eq!(entered, Err(Refusal::Handle));
+    let taken = table.take(StateNumber(0), SetHandle(sets));
+    assert_eq!(taken, Err(Refusal::Handle));
+    assert_eq!(table.row(StateNumber(states)), Err(Refusal::Handle));
+
+    let mut bytes = example.table.clone();
+    bytes[6] = states;
     let damaged = Table::new(&bytes);
-    assert_eq!(
-        damaged.take(StateNumber(0), SetHandle(0)),
-        Err(Refusal::Row)
-    );
+    let taken = damaged.take(StateNumber(0), SetHandle(0));
+    assert_eq!(taken, Err(Refusal::Row));
     assert_eq!(damaged.check(), Err(Refusal::Row));
     assert_eq!(Refusal::Row.number(), 11);
-    assert_eq!(Refusal::Orderings.to_string(), "refused 7");
 }

@@ -8,11 +8,10 @@ use benchmarks::by_hand;
 use benchmarks::reduction::PlanNode;
 use benchmarks::report::{self, number};
 use benchmarks::timing::{take_turns, Builds};
-use differential::proved;
-use differential::trials::{self, Trial};
+use order_tables::raw as proved;
 use reference::construction::Construction;
 use reference::random::Random;
-use reference::{table, Query};
+use reference::{trials, Implementation, Query, Reference};
 
 /// How often two ways to look up take turns: long enough that other work of the
 /// machine passes.
@@ -51,15 +50,6 @@ fn main() {
     reduction();
     builds();
     section_6_2();
-}
-
-/// A trial of the repository, by its name.
-fn trial(name: &str) -> Trial {
-    let mut all = trials::all().into_iter();
-    let found = all.find(|(other, _)| other == name);
-    found
-        .unwrap_or_else(|| panic!("the trial {name} is missing"))
-        .1
 }
 
 /// The table of a query, built by the proved library.
@@ -104,7 +94,7 @@ fn lookups() {
     println!();
     let mut rows = Vec::new();
     for name in LOOKED_UP {
-        let table = built(&trial(name).query);
+        let table = built(&trials::named(name).query);
         let &[states, produced, tested, sets] = table.first_chunk().expect("a table has sizes");
         let enter = lookup_times(
             &table,
@@ -146,7 +136,7 @@ fn asks(query: &Query, table: &[u8]) -> Vec<Ask> {
             let sets: Vec<u8> = (0..random.below(4))
                 .map(|_| random.below(query.sets.into()) as u8)
                 .collect();
-            let state = table::follow(table, produced as u8, &sets);
+            let state = Reference::follow(table, produced as u8, &sets);
             let mut node = PlanNode::new(&query.produced[produced]);
             sets.iter().for_each(|&set| node.take(query, set));
             let handle = random.below(orders.len());
@@ -166,7 +156,7 @@ fn reduction() {
     println!();
     let mut rows = Vec::new();
     for name in REDUCED {
-        let query = trial(name).query;
+        let query = trials::named(name).query;
         let table = built(&query);
         let query = Query::read(&query).expect("the trial's query is read");
         let asks = asks(&query, &table);
@@ -205,7 +195,7 @@ fn builds() {
     println!();
     let mut rows = Vec::new();
     for name in BUILT {
-        let bytes = trial(name).query;
+        let bytes = trials::named(name).query;
         let query = Query::read(&bytes).expect("the trial's query is read");
         let construction = Construction::of(&query).expect("the trial's query has a table");
         let turns = match name {
@@ -231,7 +221,7 @@ fn builds() {
 fn section_6_2() {
     println!("## Document 000, section 6.2");
     println!();
-    let bytes = trial("tpcr_query_8").query;
+    let bytes = trials::named("tpcr_query_8").query;
     let table = built(&bytes);
     let query = Query::read(&bytes).expect("the trial's query is read");
     let nodes = Construction::of(&query).map(|construction| construction.nodes.len());

@@ -1,9 +1,10 @@
 //! Prints the listing of the query on standard input.
 
-use std::io::{self, Read, Write};
+use std::io::{self, Read};
 
 fn main() -> io::Result<()> {
     let mut query = Vec::new();
     io::stdin().read_to_end(&mut query)?;
-    io::stdout().write_all(&reference::listing(&query))
+    print!("{}", reference::listing(&query));
+    Ok(())
 }

@@ -1,0 +1,51 @@
+//! Lent buffers: when space is refused, and how scratch and output, or scratch
+//! and text, are after a build or a listing.
+
+use crate::listing::printed;
+use crate::refusal;
+
+/// Bytes of scratch that a build or a listing takes.
+pub const SCRATCH_BYTES: usize = 16_384;
+
+/// A build of a query whose table, or refusal 1 to 8, is known. Changes the
+/// buffers as the build has to, and gives the table's length or the refusal.
+///
+/// The output keeps its bytes on every refusal, and past the table always.
+pub fn build(
+    table: &Result<Vec<u8>, u8>,
+    scratch: &mut [u8],
+    output: &mut [u8],
+) -> Result<usize, u8> {
+    use_scratch(table, scratch)?;
+    let table = table.as_ref().map_err(|&refusal| refusal)?;
+    write(table, output)
+}
+
+/// A listing of a query whose lines, or refusal 1 to 8, are known. Changes the
+/// buffers as the listing has to, and gives the length of what is printed or 9.
+///
+/// A refusal 1 to 8 is printed as a line. The text keeps its bytes when space is
+/// refused, and past what is printed always.
+pub fn list(lines: &Result<String, u8>, scratch: &mut [u8], text: &mut [u8]) -> Result<usize, u8> {
+    use_scratch(lines, scratch)?;
+    write(printed(lines).as_bytes(), text)
+}
+
+/// The scratch of a query that is constructed, or refused as this says. Checks 1
+/// to 6 come before the scratch, and when they refuse, it keeps its bytes. So it
+/// does when it is too short. Otherwise its first 16,384 bytes are 0 afterwards,
+/// and the others keep theirs.
+fn use_scratch<T>(constructed: &Result<T, u8>, scratch: &mut [u8]) -> Result<(), u8> {
+    if !matches!(constructed, Err(refusal::LENGTH..=refusal::TWIN)) {
+        let scratch = scratch.get_mut(..SCRATCH_BYTES).ok_or(refusal::SPACE)?;
+        scratch.fill(0);
+    }
+    Ok(())
+}
+
+/// The first bytes are written when there is room for all, and then only they.
+fn write(bytes: &[u8], output: &mut [u8]) -> Result<usize, u8> {
+    let output = output.get_mut(..bytes.len()).ok_or(refusal::SPACE)?;
+    output.copy_from_slice(bytes);
+    Ok(bytes.len())
+}

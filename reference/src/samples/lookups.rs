@@ -1,0 +1,36 @@
+//! Random lists of lookups.
+
+use crate::lookups::Lookup;
+use crate::query::Query;
+use crate::random::Random;
+
+/// A random list of lookups for a query: perhaps refused entries, then a
+/// granted one, then any lookups, some of them with refused handles.
+pub fn lookups(random: &mut Random, query: &Query, length: usize) -> Vec<Lookup> {
+    let produced = query.produced.len();
+    let interesting = produced + query.tested.len();
+    let mut list = Vec::new();
+    while random.one_in(8) {
+        list.push(Lookup::Enter(random.between((produced, 255)) as u8));
+    }
+    list.push(Lookup::Enter(random.below(produced) as u8));
+    for _ in 0..length {
+        list.push(match random.below(16) {
+            0 => Lookup::Enter(handle(random, produced)),
+            1..=6 => Lookup::Take(handle(random, query.sets.into())),
+            _ => Lookup::Ask(handle(random, interesting)),
+        });
+    }
+    list
+}
+
+/// A handle below the count, or once in a while one that is not.
+fn handle(random: &mut Random, count: usize) -> u8 {
+    let granted = count > 0 && !random.one_in(12);
+    let handle = if granted {
+        random.below(count)
+    } else {
+        random.between((count, 255))
+    };
+    handle as u8
+}

@@ -1,0 +1,21 @@
+//! Samples to try implementations on: random queries, tables, lists of lookups
+//! and rows, bytes that are close to a query or a table and bytes that are far
+//! from it, and queries at the limits.
+
+mod bytes;
+mod lookups;
+mod queries;
+mod rows;
+mod tables;
+
+pub use bytes::{
+    any_bytes, assorted_bytes, choices, damaged, each_byte_changed, of_nearly_this_length,
+};
+pub use lookups::lookups;
+pub use queries::{
+    any_query, constants_among_produced, dependency, nearly_query, own_column_per_set, query,
+    query_of_many_states, query_of_sizes, query_with_table, some_columns, with_equal_orders, Shape,
+    QUERY_EDGES,
+};
+pub use rows::rows;
+pub use tables::{any_table, table_of_sizes, TABLE_EDGES};

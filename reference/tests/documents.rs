@@ -1,0 +1,140 @@
+//! What the examples and the documents quote of trials is what these say, and
+//! what the README quotes of an example stands there.
+
+use std::fs;
+
+use reference::trials::{self, repository, Trial};
+
+fn document(path: &str) -> String {
+    fs::read_to_string(repository().join(path)).unwrap_or_else(|error| panic!("{path}: {error}"))
+}
+
+/// What a document has under a heading.
+fn section<'a>(document: &'a str, heading: &str) -> &'a str {
+    let heading = format!("\n## {heading}\n");
+    let (_, section) = document.split_once(&heading).expect("the heading is there");
+    section.split("\n## ").next().unwrap_or_default()
+}
+
+/// The cells of a table's rows, without the head.
+fn rows(section: &str) -> impl Iterator<Item = Vec<&str>> {
+    let rows = section.lines().skip_while(|line| !line.starts_with("|--"));
+    let rows = rows.skip(1).take_while(|line| line.starts_with('|'));
+    rows.map(|row| row.trim_matches('|').split('|').map(str::trim).collect())
+}
+
+/// The bytes that the rows of a table quote, in their sequence. Where a row says
+/// at which place they are, they must be there.
+fn quoted_bytes(section: &str) -> Vec<u8> {
+    let mut bytes = Vec::new();
+    for row in rows(section) {
+        let quoted = row.iter().find(|cell| cell.starts_with('`'));
+        let quoted = quoted.expect("the row has bytes").trim_matches('`');
+        if let Ok(place) = row[0].parse::<usize>() {
+            assert_eq!(place, bytes.len(), "{row:?}");
+        }
+        let numbers = quoted.split(' ').map(|byte| byte.parse::<u8>());
+        bytes.extend(numbers.map(|byte| byte.expect("a byte")));
+    }
+    bytes
+}
+
+/// The lists of five numbers or more that a text of Rattle has, as in
+/// `0 ∷ 1 ∷ []`.
+fn lists(text: &str) -> Vec<Vec<u8>> {
+    let mut lists = Vec::new();
+    let mut list = Vec::new();
+    for word in text.split_whitespace() {
+        match word.trim_matches(['(', ')']) {
+            "∷" => {}
+            "[]" if list.len() >= 5 => lists.push(std::mem::take(&mut list)),
+            word => match word.parse() {
+                Ok(number) => list.push(number),
+                Err(_) => list.clear(),
+            },
+        }
+    }
+    lists
+}
+
+/// The nodes and states that a trial's listing begins with.
+fn nodes_and_states(trial: &Trial) -> [&str; 2] {
+    match trial.lines[0].split(' ').collect::<Vec<_>>()[..] {
+        ["states", states, "nodes", nodes] => [nodes, states],
+        _ => panic!("trial {} has no counts", trial.name),
+    }
+}
+
+#[test]
+fn the_examples_have_the_query() {
+    let query = trials::example().query;
+    let file = fs::read(repository().join("examples/first.query"));
+    assert_eq!(file.expect("the file is there"), query);
+
+    let plan = document("examples/plan.c");
+    let begin = format!("query[{}] = {{\n", query.len());
+    let (_, array) = plan.split_once(&begin).expect("the array is there");
+    let (array, _) = array.split_once("};").expect("the array ends");
+    let lines = array.lines().filter_map(|line| line.split("/*").next());
+    let bytes = lines.flat_map(|line| line.split(',').map(str::trim));
+    let bytes = bytes.filter(|byte| !byte.is_empty());
+    let bytes: Vec<u8> = bytes.map(|byte| byte.parse().expect("a byte")).collect();
+    assert_eq!(bytes, query);
+}
+
+#[test]
+fn the_readme_has_the_listing_and_the_query() {
+    let example = trials::example();
+    let readme = document("README.md");
+    let quoted = format!("\n```\n{}```\n", example.listing());
+    assert!(section(&readme, "Two commands").contains(&quoted));
+    let bytes = section(&readme, "A first query, byte by byte");
+    let length = format!("`examples/first.query` has {} bytes.", example.query.len());
+    assert!(bytes.contains(&length));
+    assert_eq!(quoted_bytes(bytes), example.query);
+}
+
+#[test]
+fn the_example_has_the_lines_that_the_readme_quotes() {
+    let (readme, plan) = (document("README.md"), document("examples/plan.c"));
+    let (_, quoted) = readme
+        .split_once("\n```c\n")
+        .expect("lines of C are quoted");
+    for line in quoted.lines().take_while(|line| *line != "```") {
+        assert!(plan.lines().any(|other| other == line), "{line}");
+    }
+}
+
+#[test]
+fn the_format_has_the_query_and_the_table() {
+    let example = trials::example();
+    let format = document("docs/FORMAT.md");
+    assert_eq!(quoted_bytes(section(&format, "Query")), example.query);
+    assert_eq!(quoted_bytes(section(&format, "Table")), example.table);
+}
+
+#[test]
+fn the_proved_trials_have_the_queries_and_the_table() {
+    let trials = trials::all();
+    let lists = lists(&document("crates/trials/specs/Trials.antt"));
+    assert!(lists.len() > 10, "only {} lists", lists.len());
+    for list in lists {
+        let known = |trial: &Trial| [&trial.query, &trial.table].contains(&&list);
+        assert!(trials.iter().any(known), "{list:?}");
+    }
+}
+
+#[test]
+fn the_benchmarks_have_the_counts() {
+    let benchmarks = document("docs/BENCHMARKS.md");
+    for row in rows(section(&benchmarks, "Builds, µs")) {
+        let trial = trials::named(row[0]);
+        assert_eq!(row[1..3], nodes_and_states(&trial), "{row:?}");
+    }
+    let trial = trials::named("tpcr_query_8");
+    let [nodes, states] = nodes_and_states(&trial);
+    let length = trial.table_length.expect("the length is said").to_string();
+    let last = rows(section(&benchmarks, "Document 000, section 6.2")).last();
+    let last = last.expect("the table has rows");
+    assert_eq!(last[1..], [nodes, states, &length]);
+}

@@ -1,0 +1,69 @@
+//! The wrapper declares the functions that the header declares, with the same
+//! parameters and results.
+
+const HEADER: &str = include_str!("../../include/order_tables.h");
+const RAW: &str = include_str!("../src/raw.rs");
+
+/// A function: its name, its parameters' types, and its result's.
+type Function<'a> = (&'a str, Vec<&'a str>, &'a str);
+
+/// Rust's type for one of C.
+fn rust_type(c_type: &str) -> &str {
+    match c_type {
+        "const uint8_t *" => "*const u8",
+        "uint8_t *" => "*mut u8",
+        "size_t" => "usize",
+        "uint8_t" => "u8",
+        "uint32_t" => "u32",
+        "uint64_t" => "u64",
+        other => panic!("the header has the type {other}"),
+    }
+}
+
+/// The functions that the header declares and doesn't define.
+fn declared_in_c() -> Vec<Function<'static>> {
+    let statements = HEADER
+        .split(';')
+        .filter_map(|code| code.rsplit("*/").next());
+    let functions = statements.filter(|code| code.trim().starts_with("uint"));
+    functions
+        .map(|function| {
+            let (result, function) = function.trim().split_once(' ').expect("a result");
+            let (name, parameters) = function.split_once('(').expect("parameters");
+            let parameters = parameters.trim_end_matches(')').split(',');
+            let types = parameters.map(|parameter| {
+                let name = parameter.rfind([' ', '*']).expect("a type and a name");
+                rust_type(parameter[..=name].trim())
+            });
+            (name, types.collect(), rust_type(result))
+        })
+        .collect()
+}
+
+/// The functions that the wrapper declares.
+fn declared_in_rust() -> Vec<Function<'static>> {
+    let (_, block) = RAW
+        .split_once("extern \"C\" {\n")
+        .expect("the block begins");
+    let (block, _) = block.split_once("\n}").expect("the block ends");
+    let functions = block
+        .split(';')
+        .filter_map(|code| code.trim().strip_prefix("fn "));
+    functions
+        .map(|function| {
+            let (name, function) = function.split_once('(').expect("parameters");
+            let (parameters, result) = function.split_once(") -> ").expect("a result");
+            let types = parameters.split(',').filter_map(|p| p.split_once(": "));
+            (name, types.map(|(_, of)| of.trim()).collect(), result)
+        })
+        .collect()
+}
+
+#[test]
+fn the_header_and_the_wrapper_declare_the_same() {
+    let [mut c, mut rust] = [declared_in_c(), declared_in_rust()];
+    c.sort();
+    rust.sort();
+    assert!(c.len() > 10, "only {} functions", c.len());
+    assert_eq!(c, rust);
+}
