@@ -61,6 +61,15 @@ module _ (b work : Bytes) (q : ℕ) (rows : stateRows q work ≡ map packMarks (
   pub state-long : (i : ℕ) → i < q → length (getD (statesOf b) i []) ≡ length (nodes (readQuery b))
   state-long i h = state-length (readQuery b) (getD (statesOf b) i []) (member-getD (statesOf b) i [] (omega (arith, state-count)))
 
+-- they are kept where something is written behind them
+pub rows-kept : (q at : ℕ) (x work : Bytes) → q * 32 ≤ at → at ≤ length work → stateRows q (placed at x work) ≡ stateRows q work
+rows-kept q at x work h l =
+    entries (λ i. rowAt 0 32 i (placed at x work)) (stateRows q work) [] q (entry-count (λ i. rowAt 0 32 i work) 0 q)
+    (λ i k.
+    part-before (0 + i * 32) 32 at x work (omega arith) l
+    ∙ ap (λ j. rowAt 0 32 j work) (sym (zero-add i))
+    ∙ sym (entry-at (λ j. rowAt 0 32 j work) 0 q i [] k))
+
 -- the held bytes of all states are the table's
 held-all : (b : Bytes) (q : ℕ) → length (statesOf b) ≡ q → heldBefore b q ≡ flatten (map heldBytes (contentsOf b .held))
 unfolding tableOf

@@ -26,6 +26,7 @@ use Rattle.wanted.proofs.MaskLaws.{with-more}
 use Rattle.wanted.proofs.RuleLaws.{used-more}
 
 flatten-suc : (ls : List (List ℕ)) (i : ℕ) → i < length ls → flatten (take (suc i) ls) ≡ flatten (take i ls) ++ getD ls i []
+unfolding flatten
 flatten-suc [] i h = absurd (not-suc-le-zero h)
 flatten-suc (l ∷ ls) zero h = append-nil l
 flatten-suc (l ∷ ls) (suc i) h =

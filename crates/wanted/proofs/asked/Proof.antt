@@ -25,6 +25,7 @@ order-count-requires : tie.Need-order-count-requires Inv-loop μ-loop
 order-count-requires c κs = search needs
 
 loop-holds : tie.Need-loop-holds Inv-loop μ-loop
+unfolding flatten
 loop-holds c = with-none _
 
 order-requires : tie.Need-order-requires Inv-loop μ-loop

@@ -1,0 +1,55 @@
+-- What constructing leaves: the refusals 7 and 8, or the query's table in the scratch.
+use Prim.Native.Nat.{ℕ, _<_, _≤_}
+use native.Mathlib.Omega.{arith}
+use mathlib.Core.Path.{_≡_, refl, sym, ap, subst}
+use lib.ListN.{length}
+use borrow.Author.Tests.{lt-ltb, le-ltb}
+use Rattle.theory.specs.Limits.{maxNodes, maxStates}
+use Rattle.theory.specs.Refusals.{passed, orderings-refused, states-refused}
+use Rattle.theory.specs.Orders.{Query}
+use Rattle.theory.specs.Query.{Bytes, readQuery}
+use Rattle.theory.specs.Table.{Table}
+use Rattle.theory.specs.Scratch.{Stored}
+use Rattle.theory.specs.Build.{too-many, table, queryTable, construct, Constructs, many-orderings, many-states, its-table}
+use Rattle.theory.specs.Build as theory
+use Rattle.theory.proofs.BuildLaws.{construct-means}
+use Rattle.closure.specs.Work.{nodesOf, statesOf, contentsOf}
+use Rattle.construction.specs.declared.Constructed.{Constructed}
+use Rattle.construction.specs.Constructed.{answerOf, Leaves}
+
+-- a refusal leaves no table
+leaves-refused : {o : theory.Constructed} {work : Bytes} {r : Constructed} (n : ℕ) → o ≡ too-many n → r ≡ answerOf (too-many n) → Leaves o work r
+leaves-refused {o} {work} {r} n e a =
+    subst (λ k. Leaves k work r) (sym e) (record { answer = a; stored = λ t m d. let z : _≡_ {A = ℕ} 0 1 = cc in let f : ⊥ = omega arith in absurd f })
+
+module _ (b : Bytes) where
+  pub nodes-many-left : {work : Bytes} {r : Constructed} → maxNodes < length (nodesOf b) → r ≡ answerOf (too-many orderings-refused) → Leaves (construct (readQuery b)) work r
+  unfolding construct
+  nodes-many-left h a = leaves-refused orderings-refused (rw (lt-ltb maxNodes (length (nodesOf b)) h, construct)) a
+
+  module _ (few : length (nodesOf b) ≤ maxNodes) where
+    pub states-many-left : {work : Bytes} {r : Constructed} → maxStates < length (statesOf b) → r ≡ answerOf (too-many states-refused) → Leaves (construct (readQuery b)) work r
+    unfolding construct
+    states-many-left h a = leaves-refused states-refused (rw (le-ltb maxNodes (length (nodesOf b)) few, lt-ltb maxStates (length (statesOf b)) h, construct)) a
+
+    table-made : length (statesOf b) ≤ maxStates → construct (readQuery b) ≡ table (queryTable (readQuery b)) (length (nodesOf b))
+    unfolding construct
+    table-made h = rw (le-ltb maxNodes (length (nodesOf b)) few, le-ltb maxStates (length (statesOf b)) h, construct)
+
+    pub table-left : {work : Bytes} {r : Constructed} → length (statesOf b) ≤ maxStates → Stored (contentsOf b) work → r ≡ answerOf (table (contentsOf b) (length (nodesOf b))) →
+        Leaves (construct (readQuery b)) work r
+    table-left {work} {r} h s a =
+        subst (λ o. Leaves o work r) (sym (table-made h)) (record { answer = a; stored = λ t n e. subst (λ k. Stored k work) (ap contents e) s })
+      where
+        contents : theory.Constructed → Table
+        contents (too-many n) = contentsOf b
+        contents (table t n) = t
+
+-- where the answer has no refusal, there is a table
+constructed : {q : Query} {o : theory.Constructed} → Constructs q o → answerOf o .refusal ≡ passed → (t : Table) × (n : ℕ) × (o ≡ table t n)
+constructed (many-orderings _) e = absurd (omega arith)
+constructed (many-states _ _) e = absurd (omega arith)
+constructed (its-table _ _) e = (_, _, refl)
+
+pub granted-table : (b : Bytes) → answerOf (construct (readQuery b)) .refusal ≡ passed → (t : Table) × (n : ℕ) × (construct (readQuery b) ≡ table t n)
+granted-table b = constructed (construct-means (readQuery b))
