@@ -1,3 +1,3 @@
 -- What the functions of this crate promise, beside the theory.
-pub mod Output
+pub mod Written
 pub mod Built

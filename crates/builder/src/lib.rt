@@ -1,41 +1,89 @@
 // The builder: from a query's bytes to its table's.
-pub mod clear;
-pub mod construct;
-mod held;
 mod write;
 
-use construct::Built;
-use construct::refused;
+use numbers::limits::SCRATCH_LENGTH;
+use numbers::refusals::PASSED;
+use numbers::refusals::SPACE;
 ghost use mathlib.Core.Path.{_≡_};
 ghost use Prim.Native.Nat.{_≤_};
 ghost use lib.ListN.{length};
+ghost use Rattle.theory.specs.Limits.{scratchLength};
 ghost use Rattle.theory.specs.Refusals.{passed};
 ghost use Rattle.theory.specs.Query.{readQuery, queryRefusal};
-ghost use Rattle.theory.specs.Build.{construct, outcome, outputAfter, scratchAfter, zeroed};
-ghost use Rattle.builder.specs.Built.{Done, answerOf};
+ghost use Rattle.theory.specs.Build.{refused, construct, delivered, outcome, outputAfter, scratchAfter, zeroed};
+ghost use Rattle.builder.specs.Built.{answerOf, Done, Holding};
 
-// The construction for a query that passed its checks, and the work memory cleared behind it.
-fn construct_cleared(query: &[u8], work: &mut [u8], output: &mut [u8]) -> Built
-    requires { ⌜ (queryRefusal (now query) ≡ passed) × (16384 ≤ length (now work)) ⌝ }
-    ensures { λ r. ⌜ Done (construct (readQuery (now (query .entry))) (length (now (output .entry)))) (now (output .entry)) (now (output .exit)) r × (now (work .exit) ≡ zeroed (length (now (work .entry))) (now (work .entry))) ⌝ }
+// What a build answers: the refusal, or 0; and the table's length and the count of nodes, which are 0 on refusal.
+pub struct Built {
+    pub refusal: u8,
+    pub length: usize,
+    pub nodes: usize,
+}
+
+fn refused(n: u8) -> Built
+    ensures { λ r. ⌜ r ≡ answerOf (refused n) ⌝ }
 {
-    let built = construct::construct(query, work, output);
-    clear::clear(work);
+    Built {
+        refusal: n,
+        length: 0,
+        nodes: 0,
+    }
+}
+
+// The constructed table goes into the output, or 9 where that is shorter.
+fn deliver(query: &[u8], work: &[u8], q: usize, n: usize, output: &mut [u8]) -> Built
+    requires { ⌜ Holding (now query) (now work) q n ⌝ }
+    ensures { λ r. ⌜ Done (delivered (construct (readQuery (now (query .entry)))) (length (now (output .entry)))) (now (output .entry)) (now (output .exit)) r ⌝ }
+{
+    let p = query::produced(query);
+    let s = query::sets(query);
+    let size = write::size(q, p, s);
+    if output.len() < size {
+        return refused(SPACE);
+    }
+    write::write(work, q, p, query::tested(query), s, output);
+    Built {
+        refusal: PASSED,
+        length: size,
+        nodes: n,
+    }
+}
+
+// Constructing, for a query that passed checks 1 to 6, then the output.
+fn construct_into(query: &[u8], work: &mut [u8], output: &mut [u8]) -> Built
+    requires { ⌜ (queryRefusal (now query) ≡ passed) × (scratchLength ≤ length (now work)) ⌝ }
+    ensures { λ r. ⌜ Done (delivered (construct (readQuery (now (query .entry)))) (length (now (output .entry)))) (now (output .entry)) (now (output .exit)) r × (length (now (work .exit)) ≡ length (now (work .entry))) ⌝ }
+{
+    let made = construction::construct(query, work);
+    let refusal = made.refusal;
+    if refusal != PASSED {
+        return refused(refusal);
+    }
+    deliver(query, work, made.states, made.nodes, output)
+}
+
+// The same, and the work memory cleared behind it.
+fn construct_cleared(query: &[u8], work: &mut [u8], output: &mut [u8]) -> Built
+    requires { ⌜ (queryRefusal (now query) ≡ passed) × (scratchLength ≤ length (now work)) ⌝ }
+    ensures { λ r. ⌜ Done (delivered (construct (readQuery (now (query .entry)))) (length (now (output .entry)))) (now (output .entry)) (now (output .exit)) r × (now (work .exit) ≡ zeroed (length (now (work .entry))) (now (work .entry))) ⌝ }
+{
+    let built = construct_into(query, work, output);
+    byte_rows::clear(work);
     built
 }
 
-// Build the table of a query, whatever its bytes and whatever is lent: the query's own checks, then 9 for scratch, 7, 8, and 9 for output.
+// Build the table of a query, whatever its bytes and whatever is lent: checks 1 to 6, then 9 for scratch, 7, 8, and 9 for output.
 pub fn build(query: &[u8], scratch: &mut [u8], output: &mut [u8]) -> Built
     ensures { λ r. ⌜ r ≡ answerOf (outcome (now (query .entry)) (length (now (scratch .entry))) (length (now (output .entry)))) ⌝ }
     ensures { λ r. ⌜ now (output .exit) ≡ outputAfter (now (query .entry)) (length (now (scratch .entry))) (now (output .entry)) ⌝ }
     ensures { λ r. ⌜ now (scratch .exit) ≡ scratchAfter (now (query .entry)) (now (scratch .entry)) ⌝ }
 {
     let refusal = query_check::check(query);
-    if refusal != 0 {
+    if refusal != PASSED {
         return refused(refusal);
     }
-    if scratch.len() < 16384 {
-        return refused(9);
+    if scratch.len() < SCRATCH_LENGTH {
+        return refused(SPACE);
     }
-    construct_cleared(query, &mut scratch[..16384], output)
+    construct_cleared(query, &mut scratch[..SCRATCH_LENGTH], output)
 }

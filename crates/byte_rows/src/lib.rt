@@ -2,7 +2,7 @@
 // function that is called from outside hands them on.
 ghost use mathlib.Core.Path.{_≡_};
 ghost use Prim.Native.Nat.{_+_, _*_, _≤_};
-ghost use lib.ListN.{length, take};
+ghost use lib.ListN.{length, take, drop};
 ghost use lib.Seq.{paste};
 ghost use Rattle.theory.specs.Query.{byteAt, rowAt};
 ghost use Rattle.theory.specs.Build.{zeroed};
@@ -22,13 +22,20 @@ fn first(part: &[u8], width: usize) -> &[u8]
     &part[..width]
 }
 
+// The n bytes from a place on, as they are in the bytes.
+pub fn part(bytes: &[u8], at: usize, n: usize) -> &[u8]
+    requires { ⌜ at + n ≤ length (now bytes) ⌝ }
+    ensures { λ r. ⌜ (now r ≡ take n (drop at (now (bytes .entry)))) × (length (now r) ≡ n) ⌝ }
+{
+    first(&bytes[at..], n)
+}
+
 // Row i of an array of rows that begins at `base`, as it is in the bytes.
 pub fn row(bytes: &[u8], base: usize, width: usize, i: usize) -> &[u8]
     requires { ⌜ base + i * width + width ≤ length (now bytes) ⌝ }
     ensures { λ r. ⌜ (now r ≡ rowAt base width i (now (bytes .entry))) × (length (now r) ≡ width) ⌝ }
 {
-    let at = base + i * width;
-    first(&bytes[at..], width)
+    part(bytes, base + i * width, width)
 }
 
 // Write bytes at a place. The rest of the output keeps its bytes.
