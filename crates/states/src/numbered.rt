@@ -44,7 +44,7 @@ pub fn number_state(work: &mut [u8], count: usize, marks: &[u8]) -> Numbered
     if count == 128 {
         return Numbered { number, count: 129 };
     }
-    table::write_row(work, count * 32, marks);
+    byte_rows::copy(work, count * 32, marks);
     Numbered {
         number: count,
         count: count + 1,

@@ -16,7 +16,7 @@ fn read_state(work: &[u8], i: usize, marks: &mut [u8])
     requires { ⌜ (i * 32 + 32 ≤ length (now work)) × (length (now marks) ≡ 32) ⌝ }
     ensures { λ r. ⌜ now (marks .exit) ≡ rowAt 0 32 i (now (work .entry)) ⌝ }
 {
-    table::write_row(marks, 0, table::row(work, 0, 32, i));
+    byte_rows::copy(marks, 0, byte_rows::row(work, 0, 32, i));
 }
 
 // State i takes one set, and the state that comes of it is numbered.

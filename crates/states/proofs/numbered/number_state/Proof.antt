@@ -25,11 +25,11 @@ returns-2 c =
     let a = c .before .before .before .before .before .before .args in
     placed-full (now (a .work)) (now (a .marks)) (a .count) (c .before .before .find-state .result) (c .before .before .find-state .ensures) (omega arith) (c .if2 .taken)
 
-mul-write-row : tie.Need-mul-write-row
-mul-write-row c = search needs
+mul-copy : tie.Need-mul-copy
+mul-copy c = search needs
 
-write-row-requires : tie.Need-write-row-requires
-write-row-requires c κs = search needs
+copy-requires : tie.Need-copy-requires
+copy-requires c κs = search needs
 
 add-t11 : tie.Need-add-t11
 add-t11 c = search needs
@@ -41,7 +41,7 @@ returns-3 : tie.Need-returns-3
 returns-3 c =
     let a = c .before .before .before .before .before .before .before .before .before .before .args in
     let f = c .before .before .before .before .before .before .find-state in
-    rw (c .before .before .write-row .ensures) (placed-new (now (a .work)) (now (a .marks)) (a .count) (f .result) (f .ensures) (omega arith) (search needs) (omega arith) (omega arith))
+    rw (c .before .before .copy .ensures) (placed-new (now (a .work)) (now (a .marks)) (a .count) (f .result) (f .ensures) (omega arith) (search needs) (omega arith) (omega arith))
 
 pub number-state-spec : {M : Type 1} → statement M
 number-state-spec =
@@ -52,8 +52,8 @@ number-state-spec =
     returns
     same-length-2
     returns-2
-    mul-write-row
-    write-row-requires
+    mul-copy
+    copy-requires
     add-t11
     same-length-3
     returns-3)
