@@ -4,37 +4,23 @@ use native.Mathlib.Nat.{zero-add, add-zero, suc-mul}
 use native.Mathlib.Numerals.{add-one}
 use native.Mathlib.Omega.{arith}
 use mathlib.Core.Path.{_≡_, sym, _∙_, ap, ap₂}
-use mathlib.Core.List.{[], _++_, append-assoc}
-use lib.ListN.{length, take, drop, length-append}
-use lib.Seq.{paste, paste-zero, length-paste, take-paste, drop-paste, take-length, drop-drop}
+use mathlib.Core.List.{[], _++_}
+use lib.ListN.{length, take, length-append}
 use Rattle.theory.specs.Query.{Bytes}
+use Rattle.byte_rows.specs.Placed.{placed}
+use Rattle.byte_rows.proofs.PlacedLaws.{placed-none, placed-length, placed-more, placed-taken}
 use Rattle.listing.specs.Text.{Wrote, Printed}
-
--- two pastes, one behind the other
-paste-on : (d : Bytes) (at : ℕ) (l k : Bytes) → at + length l ≤ length d
-    → paste (paste d at l (length l)) (at + length l) k (length k) ≡ paste d at (l ++ k) (length (l ++ k))
-paste-on d at l k h =
-    let m : Bytes = paste d at l (length l) in
-    let front : take (at + length l) m ≡ take at d ++ take (length l) l = take-paste d at l (length l) (omega arith) (omega arith) in
-    let sum : at + length l + length k ≡ at + length (l ++ k) = rw length-append (omega arith) in
-    let back : drop (at + length l + length k) m ≡ drop (at + length (l ++ k)) d =
-    sym (drop-drop (length k) (at + length l) m)
-    ∙ ap (λ r. drop (length k) r) (drop-paste d at l (length l) (omega arith) (omega arith))
-    ∙ drop-drop (length k) (at + length l) d
-    ∙ ap (λ n. drop n d) sum in
-    ap₂ (λ f b. f ++ take (length k) k ++ b) front back ∙ rw (take-length l, take-length k, take-length (l ++ k), append-assoc (take at d) l k)
 
 -- nothing written
 pub wrote-none : (d : Bytes) (at : ℕ) → at ≤ length d → Wrote d at [] 0 d at
-wrote-none d at h = record { text = paste-zero d at []; place = sym (add-zero at); fits = h; short = omega arith }
+wrote-none d at h = record { text = placed-none d at; place = sym (add-zero at); fits = h; short = omega arith }
 
 -- one piece behind the other
 pub wrote-on : {d l m k e : Bytes} {at a p b r : ℕ} → Wrote d at l a m p → Wrote m p k b e r → Wrote d at (l ++ k) (a + b) e r
-wrote-on {d} {l} {m} {k} {e} {at} v w =
-    let h : at + length l ≤ length d = omega arith in
-    let same : length m ≡ length d = ap length (v .text) ∙ length-paste d at l (length l) h (omega arith) in
+wrote-on {d} {l} {m} {k} {e} {at} {p = p} v w =
+    let same : length m ≡ length d = ap length (v .text) ∙ placed-length at l d (omega arith) in
     record {
-      text = w .text ∙ ap₂ (λ t q. paste t q k (length k)) (v .text) (v .place) ∙ paste-on d at l k h;
+      text = w .text ∙ ap (placed p k) (v .text) ∙ placed-more at p l k d (sym (v .place)) (v .fits);
       place = rw length-append (omega arith);
       fits = omega arith;
       short = rw length-append (omega arith);
@@ -58,5 +44,5 @@ wrote-first {d} {l} {e} {a} {r} w =
       text = w .text;
       counted = counted;
       fits = w .fits;
-      first = ap₂ take (w .place) (w .text) ∙ take-paste d 0 l (length l) (omega arith) (omega arith) ∙ take-length l;
+      first = ap₂ take counted (w .text) ∙ placed-taken l d;
     }

@@ -2,9 +2,10 @@
 ghost use mathlib.Core.List.{_++_};
 ghost use Prim.Native.Nat.{_≤_};
 ghost use lib.ListN.{length};
+ghost use Rattle.theory.specs.Limits.{maxNodes};
 ghost use Rattle.theory.specs.Listing.{decimal, refusedLabel, lineEnd, tableListing};
 ghost use Rattle.table.specs.Form.{Formed};
-ghost use Rattle.listing.specs.Text.{Printed};
+ghost use Rattle.listing.specs.Text.{longestListing, longestRefusal, Printed};
 use lines::counts_line;
 use lines::start_lines;
 use lines::state_lines;
@@ -16,7 +17,7 @@ mod text;
 
 // The listing of a table with its count of nodes; how many bytes it has. They are the first ones of the text, and the others are kept.
 pub fn list(table: &[u8], nodes: usize, text: &mut [u8]) -> usize
-    requires { ⌜ Formed (now table) × (nodes ≤ 256) × (9500 ≤ length (now text)) ⌝ }
+    requires { ⌜ Formed (now table) × (nodes ≤ maxNodes) × (longestListing ≤ length (now text)) ⌝ }
     ensures { λ r. ⌜ Printed (now (text .entry)) (tableListing (now (table .entry)) nodes) (now (text .exit)) r ⌝ }
 {
     let starts = counts_line(table, nodes, text, 0);
@@ -26,7 +27,7 @@ pub fn list(table: &[u8], nodes: usize, text: &mut [u8]) -> usize
 
 // The line of a refusal.
 pub fn refused(n: u8, text: &mut [u8]) -> usize
-    requires { ⌜ 12 ≤ length (now text) ⌝ }
+    requires { ⌜ longestRefusal ≤ length (now text) ⌝ }
     ensures { λ r. ⌜ Printed (now (text .entry)) (refusedLabel ++ (decimal n ++ lineEnd)) (now (text .exit)) r ⌝ }
 {
     let at = word(text, 0, b"refused ");

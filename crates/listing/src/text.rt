@@ -4,14 +4,14 @@ ghost use Prim.Native.Nat.{_+_, _%_, _<_, _≤_};
 ghost use lib.ListN.{length};
 ghost use Rattle.theory.specs.Listing.{decimal, decimalWithin, spaced};
 ghost use Rattle.listing.specs.Text.{Wrote};
-use table::write_row;
+use byte_rows::copy;
 
 // A word, or any bytes.
 pub fn word(text: &mut [u8], at: usize, bytes: &[u8]) -> usize
     requires { ⌜ at + length (now bytes) ≤ length (now text) ⌝ }
     ensures { λ r. ⌜ Wrote (now (text .entry)) at (now (bytes .entry)) (length (now (bytes .entry))) (now (text .exit)) r ⌝ }
 {
-    write_row(text, at, bytes);
+    copy(text, at, bytes);
     at + bytes.len()
 }
 
@@ -53,5 +53,5 @@ pub fn spaced_number(text: &mut [u8], at: usize, n: u8) -> usize
     ensures { λ r. ⌜ Wrote (now (text .entry)) at (spaced n) 4 (now (text .exit)) r ⌝ }
 {
     let digits = word(text, at, b" ");
-    number(text, decimalWithin, n as usize)
+    number(text, digits, n as usize)
 }

@@ -1,7 +1,10 @@
--- Document 01's number and value for each case of the two answers, that a refusal's number is never 0, which stands for none, and an answer as one number.
-use Prim.Native.Nat.{ℕ, _+_, _*_, _/_, _<_}
+-- Document 01's number and value for each case of the two answers, the numbers that a refusal may have, and an answer as one number.
+use Prim.Native.Nat.{ℕ, _+_, _*_, _/_}
+use mathlib.Core.Path.{_≡_}
+use mathlib.Core.Logic.{_⊎_}
 use lib.Dec.{ltb}
 use Rattle.theory.specs.Tests.{pick}
+use Rattle.theory.specs.Refusals.{length-refused, size-refused, handle-refused, row-refused}
 use Rattle.theory.specs.Table.{Answer, grant, refuse}
 use Rattle.lookup.specs.declared.Moved.{Moved}
 use Rattle.lookup.specs.declared.Moved.the-variants as moved
@@ -19,20 +22,30 @@ heldOf asked.Held = grant 1
 heldOf asked.NotHeld = grant 0
 heldOf (asked.Refused n) = refuse n
 
--- A refusal has a number of the list, so that none reads as a grant.
+-- An entry or a take is refused with 1, 2, 10 or 11, an ask with 1, 2 or 10. None of these is 0, so that no refusal reads as a grant.
+abbrev pub MoveRefusal : ℕ → Type 0
+MoveRefusal n = (n ≡ length-refused) ⊎ (n ≡ size-refused) ⊎ (n ≡ handle-refused) ⊎ (n ≡ row-refused)
+
+abbrev pub AskRefusal : ℕ → Type 0
+AskRefusal n = (n ≡ length-refused) ⊎ (n ≡ size-refused) ⊎ (n ≡ handle-refused)
+
+-- A refusal's number is one of those.
 abbrev pub Listed : Moved → Type 0
 Listed (moved.To m) = Unit
-Listed (moved.Refused n) = 0 < n
+Listed (moved.Refused n) = MoveRefusal n
 
 abbrev pub ListedAsk : Asked → Type 0
 ListedAsk asked.Held = Unit
 ListedAsk asked.NotHeld = Unit
-ListedAsk (asked.Refused n) = 0 < n
+ListedAsk (asked.Refused n) = AskRefusal n
 
--- A lookup's answer: the refusal's number times 65,536 plus the value, which is 0 on refusal.
+-- A lookup's answer as one number: the refusal's number times 65,536 plus the value, which is 0 on refusal.
+abbrev pub refusalUnit : ℕ
+refusalUnit = 65536
+
 abbrev pub answerCode : Answer → ℕ
-answerCode a = a .refusal * 65536 + a .value
+answerCode a = a .refusal * refusalUnit + a .value
 
 -- The answer that such a number stands for.
 abbrev pub decoded : ℕ → Answer
-decoded n = pick (ltb n 65536) (grant n) (refuse (n / 65536))
+decoded n = pick (ltb n refusalUnit) (grant n) (refuse (n / refusalUnit))

@@ -4,6 +4,8 @@ ghost use mathlib.Core.Path.{_≡_};
 ghost use Rattle.theory.specs.Table.{refuse, grantState, enter, takeIn};
 ghost use Rattle.table.specs.Form.{Formed};
 ghost use Rattle.lookup.specs.Answers.{answerCode};
+use numbers::limits;
+use numbers::refusals;
 use table::OrderHandle;
 use table::SetHandle;
 use table::StateNumber;
@@ -12,7 +14,7 @@ use table::StateNumber;
 pub fn refused(n: u8) -> u32
     ensures { λ r. ⌜ r ≡ answerCode (refuse n) ⌝ }
 {
-    n as u32 * 65536
+    n as u32 * limits::REFUSAL_UNIT
 }
 
 // A state that was read from the table: 11 where it is not below Q.
@@ -22,7 +24,7 @@ fn granted(table: &[u8], state: u8) -> u32
     if (state as usize) < table::states(table) {
         state as u32
     } else {
-        refused(table::ROW_REFUSED)
+        refused(refusals::ROW)
     }
 }
 
@@ -33,9 +35,9 @@ fn enter_formed(table: &[u8], order: OrderHandle) -> u32
 {
     let p = order.0 as usize;
     if p < table::produced(table) {
-        granted(table, table[4 + p])
+        granted(table, table[limits::TABLE_SIZES + p])
     } else {
-        refused(table::HANDLE_REFUSED)
+        refused(refusals::HANDLE)
     }
 }
 
@@ -44,7 +46,7 @@ pub fn enter(table: &[u8], order: OrderHandle) -> u32
     ensures { λ r. ⌜ r ≡ answerCode (enter (now (table .entry)) (order .0)) ⌝ }
 {
     let refusal = table::form(table);
-    if refusal != table::PASSED {
+    if refusal != refusals::PASSED {
         return refused(refusal);
     }
     enter_formed(table, order)
@@ -58,10 +60,10 @@ fn take_formed(table: &[u8], state: StateNumber, set: SetHandle) -> u32
     let q = state.0 as usize;
     let s = set.0 as usize;
     if table::states(table) <= q {
-        return refused(table::HANDLE_REFUSED);
+        return refused(refusals::HANDLE);
     }
     if table::sets(table) <= s {
-        return refused(table::HANDLE_REFUSED);
+        return refused(refusals::HANDLE);
     }
     let row = table::successors(table, q);
     granted(table, row[s])
@@ -72,7 +74,7 @@ pub fn take(table: &[u8], state: StateNumber, set: SetHandle) -> u32
     ensures { λ r. ⌜ r ≡ answerCode (takeIn (now (table .entry)) (state .0) (set .0)) ⌝ }
 {
     let refusal = table::form(table);
-    if refusal != table::PASSED {
+    if refusal != refusals::PASSED {
         return refused(refusal);
     }
     take_formed(table, state, set)

@@ -2,10 +2,13 @@
 pub mod codes;
 
 ghost use mathlib.Core.Path.{_≡_};
-ghost use Prim.Native.Nat.{_<_};
+ghost use Prim.Native.Nat.{_+_, _/_, _<_, _≤_};
+ghost use Rattle.theory.specs.Limits.{maxProduced, maxTested};
 ghost use Rattle.theory.specs.Table.{statesIn, heldBit, grant, enter, takeIn, ask, row, rowRefusal};
 ghost use Rattle.table.specs.Form.{Formed};
-ghost use Rattle.lookup.specs.Answers.{answerOf, heldOf, Listed, ListedAsk, decoded};
+ghost use Rattle.lookup.specs.Answers.{refusalUnit, MoveRefusal, answerOf, heldOf, Listed, ListedAsk, decoded};
+use numbers::limits;
+use numbers::refusals;
 use table::OrderHandle;
 use table::SetHandle;
 use table::StateNumber;
@@ -30,16 +33,16 @@ pub enum Asked {
 
 // The answer that a number of `codes` stands for: a state where it is below 65,536, else a refusal.
 fn decoded(code: u32) -> Moved
-    requires { ⌜ (code < 16777216) × (code < 65536 → code < 256) ⌝ }
+    requires { ⌜ (code < refusalUnit → code < 256) × (refusalUnit ≤ code → MoveRefusal (code / refusalUnit)) ⌝ }
     ensures { λ r. ⌜ answerOf r ≡ decoded code ⌝ }
     ensures { λ r. ⌜ Listed r ⌝ }
 {
-    if code < 65536 {
+    if code < limits::REFUSAL_UNIT {
         Moved::To(Mark {
             state: StateNumber(code as u8),
         })
     } else {
-        Moved::Refused((code / 65536) as u8)
+        Moved::Refused((code / limits::REFUSAL_UNIT) as u8)
     }
 }
 
@@ -53,7 +56,7 @@ pub fn enter(table: &[u8], order: OrderHandle) -> Moved
 
 // The held bit of an interesting order in a state.
 fn held(table: &[u8], state: usize, i: usize) -> Asked
-    requires { ⌜ Formed (now table) × (state < statesIn (now table)) × (i < 16) ⌝ }
+    requires { ⌜ Formed (now table) × (state < statesIn (now table)) × (i < maxProduced + maxTested) ⌝ }
     ensures { λ r. ⌜ heldOf r ≡ grant (heldBit (now (table .entry)) state i) ⌝ }
     ensures { λ r. ⌜ ListedAsk r ⌝ }
 {
@@ -74,15 +77,15 @@ fn ask_formed(table: &[u8], state: StateNumber, order: OrderHandle) -> Asked
     let q = state.0 as usize;
     let i = order.0 as usize;
     if table::states(table) <= q {
-        return Asked::Refused(table::HANDLE_REFUSED);
+        return Asked::Refused(refusals::HANDLE);
     }
     if table::produced(table) + table::tested(table) <= i {
-        return Asked::Refused(table::HANDLE_REFUSED);
+        return Asked::Refused(refusals::HANDLE);
     }
     held(table, q, i)
 }
 
-// Both lookups of a plan node are methods of its mark, by value, so that no caller takes the state number out.
+// Both lookups of a plan node are methods of its mark, by value.
 impl Mark {
     // Take a set: 1, 2, 1, then 10, then 11.
     pub fn take(self, table: &[u8], set: SetHandle) -> Moved
@@ -98,7 +101,7 @@ impl Mark {
         ensures { λ r. ⌜ ListedAsk r ⌝ }
     {
         let refusal = table::form(table);
-        if refusal != table::PASSED {
+        if refusal != refusals::PASSED {
             return Asked::Refused(refusal);
         }
         ask_formed(table, self.state, order)
@@ -110,13 +113,13 @@ fn row_refusal(table: &[u8], state: StateNumber) -> u8
     ensures { λ r. ⌜ r ≡ rowRefusal (now (table .entry)) (state .0) ⌝ }
 {
     let refusal = table::form(table);
-    if refusal != table::PASSED {
+    if refusal != refusals::PASSED {
         return refusal;
     }
     if (state.0 as usize) < table::states(table) {
-        table::PASSED
+        refusals::PASSED
     } else {
-        table::HANDLE_REFUSED
+        refusals::HANDLE
     }
 }
 
@@ -126,7 +129,7 @@ pub fn row_of<'a, 'b>(table: &'a [u8], state: StateNumber, refusal: &'b mut u8) 
 {
     let refused = row_refusal(table, state);
     *refusal = refused;
-    if refused != table::PASSED {
+    if refused != refusals::PASSED {
         return &table[..0];
     }
     table::successors(table, state.0 as usize)

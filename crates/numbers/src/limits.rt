@@ -36,5 +36,11 @@ pub const HELD_WIDTH: usize = 2;
 
 pub const LONGEST_TABLE: usize = 1292;
 
+// A lookup's answer as one number is so many times the refusal's number plus the value.
+pub const REFUSAL_UNIT: u32 = 65536;
+
+// The longest listing: the counts, 21 bytes; 8 starts of 14; and 128 states of 58.
+pub const LONGEST_LISTING: usize = 7557;
+
 // The least scratch that a build takes.
 pub const SCRATCH_LENGTH: usize = 16384;

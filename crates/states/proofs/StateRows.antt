@@ -3,10 +3,10 @@ use Prim.Native.Nat.{ℕ, zero, suc, _+_, _*_, _<_, _≤_}
 use native.Mathlib.Nat.{zero-add, add-zero, suc-add, add-suc}
 use native.Mathlib.Numerals.{add-one}
 use native.Mathlib.Omega.{arith}
-use mathlib.Core.Path.{_≡_, sym, _∙_, ap, ap₂}
-use mathlib.Core.List.{[], _∷_, _++_, map, append-nil}
-use lib.ListN.{length, drop, getD, length-take, length-drop, drop-of-length-le}
-use lib.Seq.{getD-take, getD-drop, ext-getD, paste, take-length}
+use mathlib.Core.Path.{_≡_, sym, _∙_, ap}
+use mathlib.Core.List.{[], _∷_, _++_, map}
+use lib.ListN.{length, drop, getD, length-take, length-drop}
+use lib.Seq.{getD-take, getD-drop, ext-getD}
 use Rattle.theory.specs.Tests.{upFrom, position}
 use Rattle.theory.specs.Query.{Bytes, byteAt, rowAt}
 use Rattle.theory.proofs.Reflect.{decides-order}
@@ -56,8 +56,3 @@ found-at work m q i h before here =
     sym (position-is decides-order m (stateRows q work) i [] (rw rows-count h)
     (λ k b e. before k b (e ∙ rows-at q work k (omega arith)))
     (λ b. let l : i < q = rw rows-count at b in here l ∙ sym (rows-at q work i l)))
-
--- a row written over another is that row
-pub paste-whole : (d s : Bytes) → length d ≡ length s → paste d 0 s (length s) ≡ s
-paste-whole d s e =
-    ap₂ (λ l r. l ++ r) (take-length s) (ap (λ k. drop k d) (zero-add (length s)) ∙ drop-of-length-le d {i = length s} (omega arith)) ∙ append-nil s

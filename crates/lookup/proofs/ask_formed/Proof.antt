@@ -1,6 +1,8 @@
 -- `lookup::ask_formed` meets its contract: the tests that led to each answer pick it.
 use Prim.Native.Nat.{_+_, _<_, _≤_}
 use native.Mathlib.Omega.{arith}
+use mathlib.Core.Path.{refl}
+use mathlib.Core.Logic.{inr}
 use denote.Ref.{now}
 use borrow.Author.Needs.{needs}
 use Rattle.theory.specs.Table.{statesIn, producedIn, testedIn, ask}
@@ -23,7 +25,7 @@ unfolding ask
 returns c =
     let s = c .before .before .before .before .before in
     let h : statesIn (now (s .args .table)) ≤ s .args .state .0 = omega arith in
-    (rw (form-passed (s .pre)) (search picks), search needs)
+    (rw (form-passed (s .pre)) (search picks), inr (inr refl))
 
 produced-requires : tie.Need-produced-requires
 produced-requires c κs = search needs
@@ -40,7 +42,7 @@ returns-2 c =
     let s = c .before .before .before .before .before .before .before .before in
     let h : s .args .state .0 < statesIn (now (s .args .table)) = omega arith in
     let k : producedIn (now (s .args .table)) + testedIn (now (s .args .table)) ≤ s .args .order .0 = omega arith in
-    (rw (form-passed (s .pre)) (search picks), search needs)
+    (rw (form-passed (s .pre)) (search picks), inr (inr refl))
 
 held-requires : tie.Need-held-requires
 held-requires c κs = search needs

@@ -21,6 +21,7 @@ abbrev μ-loop : tie.MeasureT-loop
 μ-loop row text₀ at end₀ i₀ text end i = length row - i
 
 loop-holds : tie.Need-loop-holds Inv-loop μ-loop
+unfolding flatten
 loop-holds c = (search needs, refl, wrote-none _ _ (omega arith))
 
 shared-slice-read-spaced-number : tie.Need-shared-slice-read-spaced-number Inv-loop μ-loop

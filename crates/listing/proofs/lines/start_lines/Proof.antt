@@ -2,19 +2,20 @@
 use Prim.Native.Nat.{_*_, _-_, _≤_}
 use native.Mathlib.Omega.{arith}
 use mathlib.Core.Path.{_≡_, refl, ap}
+use mathlib.Core.List.{flatten}
 use denote.Ref.{now}
 use lib.ListN.{length}
 use borrow.Author.Needs.{needs}
 use Rattle.theory.specs.Table.{producedIn}
 use Rattle.theory.specs.Listing.{startLine}
-use Rattle.listing.specs.Text.{Wrote, lines}
+use Rattle.listing.specs.Text.{longestStart, Wrote, lines}
 use Rattle.listing.proofs.TextLaws.{wrote-none, wrote-as, wrote-turn}
 use Rattle.listing.proofs.LineLaws.{lines-more}
 use Rattle.listing.proofs.lines.start_lines.Statement.{statement}
 use Rattle.listing.proofs.lines.start_lines.Tie as tie
 
 abbrev Inv-loop : tie.InvT-loop
-Inv-loop table text₀ at n end₀ p₀ text end p = (p ≤ n) × (length text ≡ length text₀) × Wrote text₀ at (lines (startLine table) p) (p * 14) text end
+Inv-loop table text₀ at n end₀ p₀ text end p = (p ≤ n) × (length text ≡ length text₀) × Wrote text₀ at (lines (startLine table) p) (p * longestStart) text end
 
 abbrev μ-loop : tie.MeasureT-loop
 μ-loop table text₀ at n end₀ p₀ text end p = n - p
@@ -23,6 +24,7 @@ produced-requires : tie.Need-produced-requires Inv-loop μ-loop
 produced-requires c κs = search needs
 
 loop-holds : tie.Need-loop-holds Inv-loop μ-loop
+unfolding flatten
 loop-holds c = (search needs, refl, wrote-none _ _ (omega arith))
 
 start-line-requires : tie.Need-start-line-requires Inv-loop μ-loop

@@ -2,19 +2,20 @@
 use Prim.Native.Nat.{_*_, _-_, _≤_}
 use native.Mathlib.Omega.{arith}
 use mathlib.Core.Path.{_≡_, refl, ap}
+use mathlib.Core.List.{flatten}
 use denote.Ref.{now}
 use lib.ListN.{length}
 use borrow.Author.Needs.{needs}
 use Rattle.theory.specs.Table.{statesIn}
 use Rattle.theory.specs.Listing.{stateLine}
-use Rattle.listing.specs.Text.{Wrote, lines}
+use Rattle.listing.specs.Text.{longestState, Wrote, lines}
 use Rattle.listing.proofs.TextLaws.{wrote-none, wrote-as, wrote-turn}
 use Rattle.listing.proofs.LineLaws.{lines-more}
 use Rattle.listing.proofs.lines.state_lines.Statement.{statement}
 use Rattle.listing.proofs.lines.state_lines.Tie as tie
 
 abbrev Inv-loop : tie.InvT-loop
-Inv-loop table text₀ at n end₀ state₀ text end state = (state ≤ n) × (length text ≡ length text₀) × Wrote text₀ at (lines (stateLine table) state) (state * 58) text end
+Inv-loop table text₀ at n end₀ state₀ text end state = (state ≤ n) × (length text ≡ length text₀) × Wrote text₀ at (lines (stateLine table) state) (state * longestState) text end
 
 abbrev μ-loop : tie.MeasureT-loop
 μ-loop table text₀ at n end₀ state₀ text end state = n - state
@@ -23,6 +24,7 @@ states-requires : tie.Need-states-requires Inv-loop μ-loop
 states-requires c κs = search needs
 
 loop-holds : tie.Need-loop-holds Inv-loop μ-loop
+unfolding flatten
 loop-holds c = (search needs, refl, wrote-none _ _ (omega arith))
 
 state-line-requires : tie.Need-state-line-requires Inv-loop μ-loop

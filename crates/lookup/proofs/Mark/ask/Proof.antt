@@ -1,10 +1,9 @@
 -- `lookup::Mark::ask` meets its contract: a refused form refuses, and a form that passes is what the rest requires.
-use native.Mathlib.Omega.{arith}
 use mathlib.Core.Path.{sym, _∙_}
 use borrow.Author.Needs.{needs}
 use Rattle.theory.specs.Table.{ask}
 use Rattle.table.proofs.FormLaws.{formed}
-use Rattle.lookup.proofs.LookupLaws.{form-refuses}
+use Rattle.lookup.proofs.LookupLaws.{form-refuses, ask-listed}
 use Rattle.lookup.proofs.Mark.ask.Statement.{statement}
 use Rattle.lookup.proofs.Mark.ask.Tie as tie
 
@@ -13,7 +12,7 @@ form-requires c κs = search needs
 
 returns : tie.Need-returns
 unfolding ask
-returns c = (form-refuses _ _ (c .before .form .ensures) (c .if1 .taken), omega arith)
+returns c = (form-refuses _ _ (c .before .form .ensures) (c .if1 .taken), ask-listed _ (c .before .form .ensures) (c .if1 .taken))
 
 ask-formed-requires : tie.Need-ask-formed-requires
 ask-formed-requires c κs = formed _ (sym (c .before .form .ensures) ∙ c .if1 .left)
