@@ -4,7 +4,7 @@ use native.Mathlib.Omega.{arith}
 use mathlib.Core.Path.{_≡_, refl}
 use Rattle.theory.specs.Refusals.{passed}
 use Rattle.theory.specs.Query.{Bytes}
-use Rattle.theory.specs.Build.{Outcome, built, outcome, Means, query-refused, scratch-short, many-orderings, many-states, output-short, table-built}
+use Rattle.theory.specs.Build.{Outcome, built, outcome, Means, query-refused, scratch-short, not-constructed, output-short, table-built, many-orderings, many-states}
 use Rattle.theory.proofs.BuildLaws.{outcome-means}
 use Rattle.theory.proofs.DemandThree.{Built, built-faithful}
 use Rattle.table.specs.Form.{Formed}
@@ -14,10 +14,10 @@ use Rattle.builder.specs.Built.{answerOf}
 answered : {query : Bytes} {scratch output : ℕ} {o : Outcome} → Means query scratch output o → answerOf o .refusal ≡ passed → (t : Bytes) × (n : ℕ) × (o ≡ built t n)
 answered (query-refused h) e = absurd (h e)
 answered (scratch-short _ _) e = absurd (omega arith)
-answered (many-orderings _ _ _) e = absurd (omega arith)
-answered (many-states _ _ _ _) e = absurd (omega arith)
-answered (output-short _ _ _ _ _) e = absurd (omega arith)
-answered (table-built _ _ _ _ _) e = (_, _, refl)
+answered (not-constructed _ _ (many-orderings _)) e = absurd (omega arith)
+answered (not-constructed _ _ (many-states _ _)) e = absurd (omega arith)
+answered (output-short _ _ _ _) e = absurd (omega arith)
+answered (table-built _ _ _ _) e = (_, _, refl)
 
 -- a refusal's number is never 0: where the answer has none, a table was built ..
 pub granted : (query : Bytes) (scratch output : ℕ) → answerOf (outcome query scratch output) .refusal ≡ passed → (t : Bytes) × (n : ℕ) × (outcome query scratch output ≡ built t n)

@@ -7,10 +7,10 @@ use borrow.Author.Tests.{lt-ltb, le-ltb, le-leb, lt-leb, eq-eqb, ne-eqb}
 use Rattle.theory.specs.Limits.{scratchLength}
 use Rattle.theory.specs.Refusals.{passed, space-refused}
 use Rattle.theory.specs.Query.{Bytes, readQuery, queryRefusal}
-use Rattle.theory.specs.Build.{Outcome, refused, construct, outcome, outputAfter, scratchAfter, zeroed}
-use Rattle.builder.specs.declared.construct.Built.{Built}
+use Rattle.theory.specs.Build.{Outcome, refused, construct, delivered, outcome, outputAfter, scratchAfter, zeroed}
+use Rattle.builder.specs.declared.Built.{Built}
 use Rattle.builder.specs.Built.{answerOf, Done}
-use Rattle.builder.proofs.FinishLaws.{done-refused}
+use Rattle.builder.proofs.DeliverLaws.{done-refused}
 
 -- what `build` promises, in one piece
 abbrev pub Whole : Bytes → (scratch output scratch' output' : Bytes) → Built → Type 0
@@ -35,9 +35,9 @@ module _ (b s o : Bytes) where
         from-outcome {p = refused space-refused} (rw (e, lt-ltb (length s) scratchLength h, outcome)) (done-refused space-refused refl a)
         (rw (e, lt-leb scratchLength (length s) h, scratchAfter))
 
-    pub whole-built : {s' o' : Bytes} {r : Built} → scratchLength ≤ length s → Done (construct (readQuery b) (length o)) o o' r → s' ≡ zeroed scratchLength s → Whole b s o s' o' r
+    pub whole-built : {s' o' : Bytes} {r : Built} → scratchLength ≤ length s → Done (delivered (construct (readQuery b)) (length o)) o o' r → s' ≡ zeroed scratchLength s → Whole b s o s' o' r
     unfolding outcome scratchAfter
     whole-built h d z =
         let e = eq-eqb (queryRefusal b) passed c in
-        from-outcome {p = construct (readQuery b) (length o)} (rw (e, le-ltb (length s) scratchLength h, outcome)) d
+        from-outcome {p = delivered (construct (readQuery b)) (length o)} (rw (e, le-ltb (length s) scratchLength h, outcome)) d
         (z ∙ rw (e, le-leb scratchLength (length s) h, scratchAfter))

@@ -36,12 +36,17 @@ pub fn write(work: &[u8], q: usize, p: u8, t: u8, s: u8, output: &mut [u8])
     ensures { λ r. ⌜ now (output .exit) ≡ placed 0 (tableIn (now (work .entry)) q p t s) (now (output .entry)) ⌝ }
 {
     let produced = p as usize;
-    let starts_end = STARTS_PART + produced;
     let run = q * s as usize;
-    let successors_end = SUCCESSORS_PART + run;
-    let held_end = HELD_PART + q * HELD_WIDTH;
     let at = TABLE_SIZES + produced;
-    write_front(output, q as u8, p, t, s, &work[STARTS_PART..starts_end]);
-    byte_rows::copy(output, at, &work[SUCCESSORS_PART..successors_end]);
-    byte_rows::copy(output, at + run, &work[HELD_PART..held_end]);
+    write_front(
+        output,
+        q as u8,
+        p,
+        t,
+        s,
+        byte_rows::part(work, STARTS_PART, produced),
+    );
+    byte_rows::copy(output, at, byte_rows::part(work, SUCCESSORS_PART, run));
+    let words = byte_rows::part(work, HELD_PART, q * HELD_WIDTH);
+    byte_rows::copy(output, at + run, words);
 }

@@ -51,12 +51,9 @@ placed-more at next x y d e h =
     ∙ ap (λ l. take at d ++ l) (sym (append-assoc x y behind))
 
 -- three writes from the start on, each behind the one before
-pub placed-three : (i j : ℕ) (x y z d : Bytes) → length x ≡ i → i + length y ≡ j → j ≤ length d
-    → placed j z (placed i y (placed 0 x d)) ≡ ((x ++ y) ++ z) ++ drop (length ((x ++ y) ++ z)) d
+pub placed-three : (i j : ℕ) (x y z d : Bytes) → length x ≡ i → i + length y ≡ j → j ≤ length d → placed j z (placed i y (placed 0 x d)) ≡ placed 0 ((x ++ y) ++ z) d
 placed-three i j x y z d e f h =
-    ap (placed j z) (placed-more 0 i x y d (omega arith) (omega arith))
-    ∙ placed-more 0 j (x ++ y) z d (omega (arith, length-append x y)) h
-    ∙ placed-first ((x ++ y) ++ z) d
+    ap (placed j z) (placed-more 0 i x y d (omega arith) (omega arith)) ∙ placed-more 0 j (x ++ y) z d (omega (arith, length-append x y)) h
 
 -- what lies before the place is kept, and what was written stands there
 front-part : (base n : ℕ) (f r : Bytes) → base + n ≤ length f → take n (drop base (f ++ r)) ≡ take n (drop base f)

@@ -1,4 +1,4 @@
--- `builder::build` meets its contract: the query's own checks, the scratch's length, then the construction on the scratch's first 16,384 bytes.
+-- `builder::build` meets its contract: checks 1 to 6, the scratch's length, then the construction on the scratch's first 16,384 bytes.
 use native.Mathlib.Omega.{arith}
 use mathlib.Core.Path.{_≡_, sym, _∙_, ap, subst}
 use mathlib.Core.Logic.{_≢_}
@@ -7,10 +7,11 @@ use lib.ListN.{drop}
 use lib.Seq.{length-take-le}
 use denote.Ref.{now}
 use borrow.Author.Needs.{needs}
+use Rattle.theory.specs.Limits.{scratchLength}
 use Rattle.theory.specs.Refusals.{passed}
 use Rattle.theory.specs.Build.{refused}
 use Rattle.builder.specs.Built.{answerOf}
-use Rattle.builder.proofs.ClearLaws.{zeroed-part}
+use Rattle.byte_rows.proofs.ClearLaws.{zeroed-part}
 use Rattle.builder.proofs.WholeLaws.{whole-refused, whole-short, whole-built}
 use Rattle.builder.proofs.build.Statement.{statement}
 use Rattle.builder.proofs.build.Tie as tie
@@ -40,11 +41,11 @@ slice-relend-prefix-construct-cleared c = search needs
 
 slice-aggregate-construct-cleared : tie.Need-slice-aggregate-construct-cleared
 slice-aggregate-construct-cleared c =
-    sym (length-take-le 16384 (now (c .before .before .before .before .before .before .before .args .scratch)) (omega arith))
+    sym (length-take-le scratchLength (now (c .before .before .before .before .before .before .before .args .scratch)) (omega arith))
 
 construct-cleared-requires : tie.Need-construct-cleared-requires
 construct-cleared-requires c κs = let a = c .before .before .before .before .before .before .before .before .args in
-    (sym (c .before .before .before .before .check .ensures) ∙ c .before .before .before .if1 .left, omega (arith, length-take-le 16384 (now (a .scratch)) (omega arith)))
+    (sym (c .before .before .before .before .check .ensures) ∙ c .before .before .before .if1 .left, omega (arith, length-take-le scratchLength (now (a .scratch)) (omega arith)))
 
 same-length : tie.Need-same-length
 same-length c = search needs
@@ -57,7 +58,7 @@ returns-3 c = let a = c .before .before .before .before .before .before .before 
     let e = c .before .before .before .before .construct-cleared .ensures in
     whole-built (now (a .query)) (now (a .scratch)) (now (a .output))
     (sym (c .before .before .before .before .before .before .before .before .before .check .ensures) ∙ c .before .before .before .before .before .before .before .before .if1 .left)
-    (omega arith) (e .0) (ap (λ p. p ++ drop 16384 (now (a .scratch))) (e .1) ∙ zeroed-part 16384 (now (a .scratch)) (omega arith))
+    (omega arith) (e .0) (ap (λ p. p ++ drop scratchLength (now (a .scratch))) (e .1) ∙ zeroed-part scratchLength (now (a .scratch)) (omega arith))
 
 pub build-spec : {M : Type 1} → statement M
 build-spec =

@@ -74,9 +74,10 @@ returns-2 c = let t = c .before .before in let p = t .before .before .before .be
     let count = state-count b work q (are .rows) in
     let sizes = query-sizes b (s .pre .0 .prepared .checked) in
     let wide = placed-length startsPart starts work (omega (arith, e .1, e .2, s .pre .1)) in
-    let stored = all-stored are (omega (arith, e .1, s .pre .1)) (e .2) (omega (arith, set-count b, sizes .few-sets)) (omega (arith, produced-count b, sizes .few-produced)) in
-    (table-left b (few s) (omega (arith, count, are .few)) (rw all stored) (λ i. record { refusal = 0; states = sym count i; nodes = sym (nodes-count (s .pre .0 .listed)) i }),
-    ap length all ∙ placed-length heldPart (heldBefore b q) (placed startsPart starts work) (omega (arith, held-length b q, wide, are .few, e .1, s .pre .1)) ∙ wide ∙ e .1)
+    let stored = all-stored are (omega (arith, e .1, s .pre .1)) (e .2) (omega (arith, set-count b, sizes .few-sets)) (omega (arith, produced-count b, sizes .few-produced)) in (
+      table-left b (few s) (omega (arith, count, are .few)) (rw all stored) (λ i. record { refusal = 0; states = sym count i; nodes = sym (nodes-count (s .pre .0 .listed)) i }),
+      ap length all ∙ placed-length heldPart (heldBefore b q) (placed startsPart starts work) (omega (arith, held-length b q, wide, are .few, e .1, s .pre .1)) ∙ wide ∙ e .1,
+    )
 
 pub with-nodes-spec : {M : Type 1} → statement M
 with-nodes-spec =
