@@ -3,14 +3,12 @@ use Prim.Native.Nat.{ℕ, _+_, _≤_, _<_}
 use native.Mathlib.Nat.{zero-add}
 use native.Mathlib.Omega.{arith}
 use mathlib.Core.Path.{_≡_, refl, sym, _∙_, ap, ap₂, subst}
-use mathlib.Core.Bool.{Bool, false}
 use mathlib.Core.Logic.{_↔_}
 use mathlib.Core.List.{List, [], _∷_, map, List·Memᴰ, List·Memᴰ·head, Memᴰ·of-map}
 use lib.ListN.{length, getD, length-map}
 use Rattle.theory.specs.Tests.{Decides, position, upFrom}
 use Rattle.theory.specs.Limits.{maxStates, maxProduced, maxTested, maxSets}
 use Rattle.theory.specs.Machine.{Sizes, Machine, AllBelow, runs, Reached}
-use Rattle.theory.specs.Query.{Bytes}
 use Rattle.theory.specs.Table.{Table, Sized, Numbered, tableOf, numbersOf, machineIn, writeTable}
 use Rattle.theory.proofs.PositionLaws.{position-bound, position-reads}
 use Rattle.theory.proofs.ListLaws.{member-getD, member-upFrom, upFrom-length, upFrom-getD}
@@ -43,7 +41,7 @@ module _ {X : Type 0} (m : Machine X) (z : Sizes) (xs : List X) (limits : Limite
   number-below x r = position-bound (known .decides) x xs (known .exactly x .1 r)
 
   number-reads : (x : X) (d : X) → Reached m z x → getD xs (number x) d ≡ x
-  number-reads x d r = position-reads (known .decides) x d xs (known .exactly x .1 r)
+  number-reads x d r = position-reads (known .decides) x d xs (number-below x r)
 
   pub table-sized : Sized numbered
   unfolding tableOf

@@ -5,7 +5,7 @@ use native.Mathlib.Omega.{arith}
 use mathlib.Core.Path.{_≡_, refl, sym, _∙_, ap, ap₂, subst}
 use mathlib.Core.Logic.{⊎-elim}
 use mathlib.Core.Bool.{Bool, true, false}
-use mathlib.Core.List.{List, [], _∷_, _++_, map, append-assoc, List·Memᴰ, List·Memᴰ·head, List·Memᴰ·tail, List·Memᴰ·cases-cons, List·Memᴰ·append-cases, flatten}
+use mathlib.Core.List.{List, [], _∷_, _++_, map, append-assoc, List·Memᴰ, List·Memᴰ·head, List·Memᴰ·tail, List·Memᴰ·cases-cons, List·Memᴰ·append-cases, List·Memᴰ·eq-of-singleton, flatten}
 use lib.ListN.{length, take, drop, getD, length-append}
 use lib.Pow.{pow-mono}
 use lib.Seq.{take-at, drop-append-add, getD-take, getD-drop}
@@ -39,6 +39,9 @@ module _ {A : Type 0} where
   pub all-append : {P : A → Type 0} (k : List A) {l : List A} → ((y : A) → List·Memᴰ y k → P y) → ((y : A) → List·Memᴰ y l → P y)
       → (y : A) → List·Memᴰ y (k ++ l) → P y
   all-append k g h y m = ⊎-elim (g y) (h y) (List·Memᴰ·append-cases k m)
+
+  pub all-snoc : {P : A → Type 0} (l : List A) {x : A} → ((y : A) → List·Memᴰ y l → P y) → P x → (y : A) → List·Memᴰ y (l ++ (x ∷ [])) → P y
+  all-snoc {P} l h p = all-append l h (λ y m. subst P (sym (List·Memᴰ·eq-of-singleton m)) p)
 
   -- what holds of the entries of each row holds of them end to end
   pub all-flatten : {P : A → Type 0} (rows : List (List A)) → ((r : List A) → List·Memᴰ r rows → (y : A) → List·Memᴰ y r → P y)
