@@ -21,10 +21,11 @@ use Rattle.closure.specs.Work.{packMarks, nodesOf, statesOf, contentsOf, States
 use Rattle.states.specs.States.{Joined, StartsIn, Started, Visited, walkFrom, taken}
 use Rattle.theory.proofs.WalkLaws.{walk-end}
 use Rattle.theory.proofs.QueryLaws.{set-count}
-use Rattle.states.proofs.WalkLaws.{prefix-position}
+use Rattle.theory.proofs.ListLaws.{prefix-length}
+use Rattle.theory.proofs.PositionLaws.{position-grows}
 use Rattle.states.proofs.JoinedLaws.{listed-count}
 use Rattle.states.proofs.ContentLaws.{starts-at, starts-count, successors-count}
-use Rattle.states.proofs.VisitLaws.{ahead-prefix, prefix-length}
+use Rattle.states.proofs.VisitLaws.{ahead-prefix}
 
 pub started-none : (b work starts : Bytes) → Started b work starts 0 0
 started-none b work starts =
@@ -55,7 +56,7 @@ module _ {b work starts : Bytes} {count p number next : ℕ} {after : Bytes} (s 
   pub started-more : p < length starts → next ≤ 128 → Started b after (set starts p number) next (p + 1)
   started-more room few =
       let written : number ≡ getD (contentsOf b .starts) p 0 =
-      j .place few ∙ sym (prefix-position decides-marks grown (ahead-prefix b grown rest 129 0 on) ms (addAll-has decides-marks (ms ∷ []) (s .states) ms (List·Memᴰ·head refl))) ∙ sym (starts-at b p h) in
+      j .place few ∙ sym (position-grows decides-marks ms grown (ahead-prefix b grown rest 129 0 on) (addAll-has decides-marks (ms ∷ []) (s .states) ms (List·Memᴰ·head refl))) ∙ sym (starts-at b p h) in
       record { states = grown; listed = j .fits few; ahead = on; stored = λ k l. go k l (says-eqb k p) written }
     where
       go : (k : ℕ) → k < p + 1 → {t : Bool} → Says (k ≡ p) t → number ≡ getD (contentsOf b .starts) p 0 → byteAt (set starts p number) k ≡ getD (contentsOf b .starts) k 0

@@ -29,10 +29,9 @@ use Rattle.closure.specs.Work.{packMarks, Ready, nodesOf}
 use Rattle.closure.specs.Marks.{withMark}
 use Rattle.states.specs.States.{Keyed}
 use Rattle.closure.proofs.MarkLaws.{pack-length, pack-byte, pack-mark}
-use Rattle.theory.proofs.PositionLaws.{position-bound}
+use Rattle.theory.proofs.RangeLaws.{map-more}
 use Rattle.theory.proofs.QueryLaws.{produced-count}
-use Rattle.states.proofs.PositionLaws.{position-map}
-use Rattle.states.proofs.StateRows.{upFrom-snoc}
+use Rattle.theory.proofs.PositionLaws.{position-bound, position-map}
 
 -- the first j prefixes of an order, by their lengths
 abbrev pub shortest : ℕ → Order → List Order
@@ -48,7 +47,7 @@ all-prefixes (c ∷ o) =
     ap (λ l. [] ∷ l) (from-next (λ k. take k (c ∷ o)) 0 (suc (length o)) ∙ sym (map-map (λ r. c ∷ r) (λ k. take k o) (upFrom 0 (suc (length o)))) ∙ ap (map (λ r. c ∷ r)) (all-prefixes o))
 
 prefixes-more : (j : ℕ) (o : Order) → shortest (j + 1) o ≡ shortest j o ++ (take j o ∷ [])
-prefixes-more j o = rw add-one (upFrom-snoc (λ k. take k o) 0 j ∙ ap (λ k. shortest j o ++ (take k o ∷ [])) (zero-add j))
+prefixes-more j o = map-more (λ k. take k o) 0 j j (sym (zero-add j))
 
 -- one more ordering, which is a node: its mark is set
 module _ (os : List Order) (x : Order) where
