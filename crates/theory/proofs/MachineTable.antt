@@ -1,8 +1,7 @@
 -- The table of a machine arrives where the machine arrives and holds what it holds: first its numbers, then its bytes.
 use Prim.Native.Nat.{ℕ, _+_, _≤_, _<_}
-use native.Mathlib.Nat.{zero-add}
 use native.Mathlib.Omega.{arith}
-use mathlib.Core.Path.{_≡_, refl, sym, _∙_, ap, ap₂, subst}
+use mathlib.Core.Path.{_≡_, refl, sym, _∙_, ap, subst}
 use mathlib.Core.Logic.{_↔_}
 use mathlib.Core.List.{List, [], _∷_, map, List·Memᴰ, List·Memᴰ·head, Memᴰ·of-map}
 use lib.ListN.{length, getD, length-map}
@@ -11,8 +10,9 @@ use Rattle.theory.specs.Limits.{maxStates, maxProduced, maxTested, maxSe
 use Rattle.theory.specs.Machine.{Sizes, Machine, AllBelow, runs, Reached}
 use Rattle.theory.specs.Table.{Table, Sized, Numbered, tableOf, numbersOf, machineIn, writeTable}
 use Rattle.theory.proofs.PositionLaws.{position-bound, position-reads}
-use Rattle.theory.proofs.ListLaws.{member-getD, member-upFrom, upFrom-length, upFrom-getD}
+use Rattle.theory.proofs.ListLaws.{member-getD, member-upFrom}
 use Rattle.theory.proofs.RowLaws.{getD-map}
+use Rattle.theory.proofs.RangeLaws.{entry-of, entry-count}
 use Rattle.theory.proofs.MachineLaws.{below-tail, reached-start, reached-next, reached-runs}
 use Rattle.theory.proofs.TableLaws.{written-start, written-successor, held-back}
 
@@ -53,10 +53,10 @@ module _ {X : Type 0} (m : Machine X) (z : Sizes) (xs : List X) (limits : Limite
         few-produced = limits .few-produced;
         few-tested = limits .few-tested;
         few-sets = limits .few-sets;
-        starts-count = length-map (upFrom 0 (z .produced)) (λ p. number (m .start p)) ∙ upFrom-length 0 (z .produced);
+        starts-count = entry-count (λ p. number (m .start p)) 0 (z .produced);
         rows-count = length-map xs (λ x. map (λ s. number (m .next x s)) (upFrom 0 (z .sets)));
         row-width = λ r k. let t = Memᴰ·of-map (λ x. map (λ s. number (m .next x s)) (upFrom 0 (z .sets))) xs k in
-            ap length (sym (t .2)) ∙ length-map (upFrom 0 (z .sets)) (λ s. number (m .next (t .0) s)) ∙ upFrom-length 0 (z .sets);
+            ap length (sym (t .2)) ∙ entry-count (λ s. number (m .next (t .0) s)) 0 (z .sets);
         held-count = length-map xs (λ x. m .held x);
         held-width = λ h k. let t = Memᴰ·of-map (λ x. m .held x) xs k in ap length (sym (t .2)) ∙ known .wide (t .0) (known .exactly (t .0) .0 (t .1));
       }
@@ -79,16 +79,14 @@ module _ {X : Type 0} (m : Machine X) (z : Sizes) (xs : List X) (limits : Limite
   -- a start, a successor and the held orders as the table has them
   start-number : (p : ℕ) → p < z .produced → numbersOf numbered .start p ≡ number (m .start p)
   unfolding tableOf
-  start-number p h =
-      getD-map (λ r. number (m .start r)) (upFrom 0 (z .produced)) p 0 0 (subst (λ n. p < n) (sym (upFrom-length 0 (z .produced))) h)
-      ∙ ap (λ r. number (m .start r)) (upFrom-getD 0 (z .produced) p 0 h ∙ zero-add p)
+  start-number p h = entry-of (λ r. number (m .start r)) (z .produced) p 0 h
 
   successor-number : (x : X) (s : ℕ) → Reached m z x → s < z .sets → numbersOf numbered .next (number x) s ≡ number (m .next x s)
   unfolding tableOf
   successor-number x s r h =
       ap (λ row. getD row s 0) (getD-map (λ y. map (λ n. number (m .next y n)) (upFrom 0 (z .sets))) xs (number x) [] x (number-below x r))
-      ∙ getD-map (λ n. number (m .next (getD xs (number x) x) n)) (upFrom 0 (z .sets)) s 0 0 (subst (λ n. s < n) (sym (upFrom-length 0 (z .sets))) h)
-      ∙ ap₂ (λ y n. number (m .next y n)) (number-reads x x r) (upFrom-getD 0 (z .sets) s 0 h ∙ zero-add s)
+      ∙ entry-of (λ n. number (m .next (getD xs (number x) x) n)) (z .sets) s 0 h
+      ∙ ap (λ y. number (m .next y s)) (number-reads x x r)
 
   held-number : (x : X) → Reached m z x → numbersOf numbered .held (number x) ≡ m .held x
   unfolding tableOf

@@ -6,6 +6,7 @@ use mathlib.Core.Path.{_≡_, refl, sym, _∙_, ap, ap₂, subst}
 use mathlib.Core.Logic.{⊎-elim}
 use mathlib.Core.Bool.{Bool, true, false}
 use mathlib.Core.List.{List, [], _∷_, _++_, map, append-assoc, List·Memᴰ, List·Memᴰ·head, List·Memᴰ·tail, List·Memᴰ·cases-cons, List·Memᴰ·append-cases, List·Memᴰ·eq-of-singleton, flatten}
+use lib.Dec.{eqb}
 use lib.ListN.{length, take, drop, getD, length-append}
 use lib.Pow.{pow-mono}
 use lib.Seq.{take-at, drop-append-add, getD-take, getD-drop}
@@ -74,10 +75,14 @@ module _ (w : ℕ) where
       → rowAt base w i (front ++ (flatten rows ++ back)) ≡ getD rows i []
   row-of-rows base front rows back i h e l = rw (← e, drop-append-add) (row-of-flatten rows back i h l)
 
--- a bit is 0 or 1
-bit-below : (b : Bool) → bit b < 2
+-- a bit is 0 or 1, and tested for 1 it is the Boolean that it came from
+pub bit-below : (b : Bool) → bit b < 2
 bit-below true = omega arith
 bit-below false = omega arith
+
+pub eqb-bit : (b : Bool) → eqb (bit b) 1 ≡ b
+eqb-bit true = refl
+eqb-bit false = refl
 
 -- bit k of a number is entry k of the bits that it was made from
 pub number-bit : (bs : List Bool) (k : ℕ) → number bs / 2 ^ k % 2 ≡ bit (getD bs k false)

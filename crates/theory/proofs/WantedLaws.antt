@@ -17,17 +17,17 @@ use Rattle.theory.proofs.ListLaws.{member-flatten, flatten-member, memb
 use Rattle.theory.proofs.ClosureLaws.{closure-found, closure-complete, closure-few}
 
 -- what is in a list that stands only where a test passes: the test passes, and it is in the list
-picked : {P : Type 0} {b : Bool} {x : ℕ} {l : List ℕ} → Says P b → List·Memᴰ x (pick b l []) → P × List·Memᴰ x l
+pub picked : {P : Type 0} {b : Bool} {x : ℕ} {l : List ℕ} → Says P b → List·Memᴰ x (pick b l []) → P × List·Memᴰ x l
 picked (holds p) m = (p, m)
 picked (fails n) m = absurd (List·Memᴰ·not-nil m)
 
 -- a list that stands where a column is itself
-pick-self : (c : ℕ) {x : ℕ} {l : List ℕ} → List·Memᴰ x l → List·Memᴰ x (pick (eqb c c) l [])
+pub pick-self : (c : ℕ) {x : ℕ} {l : List ℕ} → List·Memᴰ x l → List·Memᴰ x (pick (eqb c c) l [])
 pick-self c m = rw (true-says (says-eqb c c) refl) m
 
 module _ (q : Query) where
   -- the columns that the rules make wanted where c is
-  abbrev leads : ℕ → List ℕ
+  abbrev pub leads : ℕ → List ℕ
   leads c = flatten (map (wantedBy c) (allRules q))
 
   -- what a rule makes wanted is wanted
@@ -40,12 +40,12 @@ module _ (q : Query) where
       (List·Memᴰ·append-cases (pick (eqb c a) (b ∷ []) []) m)
 
   -- what is found from the columns of the interesting orders is wanted
-  found-wanted : {c : ℕ} → Found leads (flatten (interesting q)) c → Wanted q c
+  pub found-wanted : {c : ℕ} → Found leads (flatten (interesting q)) c → Wanted q c
   found-wanted (first m) = let t = member-flatten (interesting q) m in asked (t .1) (t .2)
   found-wanted (next {x} f m) = let t = member-flatten-map (wantedBy x) (allRules q) m in by-wanted (t .0) (t .1) (t .2) (found-wanted f)
 
   -- and what is wanted is found
-  wanted-found : {c : ℕ} → Wanted q c → Found leads (flatten (interesting q)) c
+  pub wanted-found : {c : ℕ} → Wanted q c → Found leads (flatten (interesting q)) c
   wanted-found (asked k m) = first (flatten-member k m)
   wanted-found (settles {r} k m w) = next (wanted-found w) (flatten-map-member (wantedBy r) k (pick-self r m))
   wanted-found (equals {a} {b} k w) =
