@@ -10,13 +10,14 @@ use Rattle.theory.specs.Orders.{Order, Orderings}
 use Rattle.theory.specs.Construction.{Marks, marked}
 use Rattle.theory.specs.Query.{Bytes}
 use Rattle.theory.proofs.ListLaws.{Within}
+use Rattle.theory.proofs.StateLaws.{marked-at}
 use Rattle.theory.proofs.RowLaws.{getD-map}
 use Rattle.derivation.specs.Keys.{keyOf}
 use Rattle.closure.specs.Work.{packMarks}
 use Rattle.closure.specs.Marks.{inMarks, withMark}
 use Rattle.closure.specs.Close.{Marked, none, unknown, there, new, Turned, over, visit, Visited, begun, turn}
 use Rattle.closure.proofs.MarkLaws.{marked-pack, pack-mark}
-use Rattle.closure.proofs.NumberLaws.{marked-at, set-keeps, set-only}
+use Rattle.closure.proofs.NumberLaws.{set-keeps, set-only}
 
 -- the bytes m hold marks that have those of ms, and all of them are of R
 pub record Grown (ns : List Order) (R : Orderings) (ms : Marks) (m : Bytes) : Type 0 where

@@ -1,11 +1,11 @@
 -- Nodes by their numbers: the marked ones, that marks tell different sets apart, and the number that a key has.
-use Prim.Native.Nat.{ℕ, zero, suc, _<_, suc-le-suc}
+use Prim.Native.Nat.{ℕ, zero, suc, _<_}
 use native.Mathlib.Nat.{not-suc-le-zero, le-of-suc-le-suc}
 use native.Mathlib.Omega.{arith}
 use mathlib.Core.Path.{_≡_, refl, sym, _∙_, ap, subst}
-use mathlib.Core.Bool.{Bool, true, false, false≢true}
-use mathlib.Core.Logic.{_⊎_, inl, inr, ⊎-elim}
-use mathlib.Core.List.{List, [], _∷_, List·Memᴰ, List·Memᴰ·head, List·Memᴰ·tail, List·Memᴰ·not-nil, List·Memᴰ·cases-cons, Memᴰ·cast}
+use mathlib.Core.Bool.{Bool, true, false}
+use mathlib.Core.Logic.{_⊎_, inl, inr}
+use mathlib.Core.List.{List, [], List·Memᴰ, Memᴰ·cast}
 use lib.Dec.{eqb}
 use lib.ListN.{length, take, getD, set}
 use lib.Seq.{length-take-le, getD-set-same, getD-set-other, ext-getD}
@@ -15,24 +15,9 @@ use Rattle.theory.specs.Query.{Bytes}
 use Rattle.theory.specs.Construction.{Marks, marked}
 use Rattle.theory.proofs.Reflect.{says-eqb, decides-number}
 use Rattle.theory.proofs.ListLaws.{Within, member-getD}
+use Rattle.theory.proofs.StateLaws.{at-marked, marked-at}
 use Rattle.theory.proofs.PositionLaws.{position-bound, position-reads}
 use Rattle.closure.specs.Close.{Room, Sought}
-
--- the marked nodes are those whose mark is set
-pub at-marked : (ms : Marks) (ns : List Order) (o : Order) → List·Memᴰ o (marked ms ns) → (i : ℕ) × (i < length ns) × (getD ms i false ≡ true) × (getD ns i [] ≡ o)
-at-marked [] ns o m = absurd (List·Memᴰ·not-nil m)
-at-marked (b ∷ ms) [] o m = absurd (List·Memᴰ·not-nil m)
-at-marked (true ∷ ms) (n ∷ ns) o m =
-    ⊎-elim (λ e. (zero, omega arith, refl, sym e)) (λ k. let t = at-marked ms ns o k in (suc (t .0), suc-le-suc (t .1), t .2, t .3)) (List·Memᴰ·cases-cons m)
-at-marked (false ∷ ms) (n ∷ ns) o m = let t = at-marked ms ns o m in (suc (t .0), suc-le-suc (t .1), t .2, t .3)
-
-pub marked-at : (ms : Marks) (ns : List Order) (i : ℕ) → i < length ns → getD ms i false ≡ true → List·Memᴰ (getD ns i []) (marked ms ns)
-marked-at [] ns i h e = absurd (false≢true e)
-marked-at (b ∷ ms) [] i h e = absurd (not-suc-le-zero h)
-marked-at (true ∷ ms) (n ∷ ns) zero h e = List·Memᴰ·head refl
-marked-at (false ∷ ms) (n ∷ ns) zero h e = absurd (false≢true e)
-marked-at (true ∷ ms) (n ∷ ns) (suc i) h e = List·Memᴰ·tail (marked-at ms ns i (le-of-suc-le-suc h) e)
-marked-at (false ∷ ms) (n ∷ ns) (suc i) h e = marked-at ms ns i (le-of-suc-le-suc h) e
 
 -- with one mark more there is one node more
 module _ (ms : Marks) (ns : List Order) (i : ℕ) (even : length ms ≡ length ns) where

@@ -12,6 +12,7 @@ use Rattle.theory.specs.Closure.{closure}
 use Rattle.theory.specs.Construction.{Wanted, asked, settles, equals, equals′, columnsOf, isWanted, keep, kept, steps, keptSteps, nodes}
 use Rattle.theory.specs.Query.{Bytes, columnCount, readQuery}
 use Rattle.theory.proofs.Reflect.{decides-number, decides-order, says-true}
+use Rattle.theory.proofs.ClosureLaws.{closure-all}
 use Rattle.theory.proofs.WantedLaws.{says-wanted, kept-interesting}
 use Rattle.orders.specs.Orders.{inMask}
 use Rattle.query.specs.Passed.{Passed}
@@ -78,6 +79,10 @@ module _ (b : Bytes) (w n : ℕ) (p : Prepared b w n) where
   pub node-keys : closure eqb (keySteps w n (allRules (readQuery b))) maxNodes (map keyOf (readQuery b .produced)) ≡ map keyOf (nodes (readQuery b))
   unfolding nodes
   node-keys = key-closure (allRules (readQuery b)) maxNodes (readQuery b .produced) produced-small
+
+  pub nodes-small : (o : Order) → List·Memᴰ o (nodes (readQuery b)) → Small o
+  unfolding nodes
+  nodes-small = closure-all decides-order (keptSteps (readQuery b) (allRules (readQuery b))) maxNodes (readQuery b .produced) Small produced-small (λ x y s m. steps-small (allRules (readQuery b)) x y m)
 
 -- the keys that are listed are as many as the nodes
 pub nodes-count : {b : Bytes} {array : List ℕ} {n : ℕ} → NodesAre b array n → length (nodes (readQuery b)) ≡ n

@@ -9,8 +9,7 @@ use Rattle.theory.specs.Tests.{position, upFrom}
 use Rattle.theory.specs.Construction.{Marks, sameMarks, startState}
 use Rattle.theory.specs.Query.{Bytes, setCount, readQuery}
 use Rattle.theory.specs.Table.{tableOf}
-use Rattle.theory.proofs.ListLaws.{upFrom-length, upFrom-getD}
-use Rattle.theory.proofs.RangeLaws.{entry-at, entry-count}
+use Rattle.theory.proofs.RangeLaws.{entry-of, entry-count}
 use Rattle.theory.proofs.RowLaws.{getD-map, flatten-length, row-of-rows}
 use Rattle.theory.proofs.QueryLaws.{set-count}
 use Rattle.closure.specs.Work.{nodesOf, statesOf, contentsOf}
@@ -27,13 +26,11 @@ module _ (b : Bytes) where
   unfolding rowOf
   wide r m =
       let t = Memᴰ·of-map rowOf (statesOf b) m in
-      ap length (sym (t .2)) ∙ length-map (upFrom 0 (readQuery b .sets)) _ ∙ upFrom-length 0 (readQuery b .sets) ∙ set-count b
+      ap length (sym (t .2)) ∙ entry-count (λ s. numberOf (taken b (t .0) s)) 0 (readQuery b .sets) ∙ set-count b
 
   pub starts-at : (p : ℕ) → p < length (readQuery b .produced) → getD (contentsOf b .starts) p 0 ≡ position sameMarks (startState (nodesOf b) (getD (readQuery b .produced) p [])) (statesOf b)
   unfolding tableOf
-  starts-at p h =
-      entry-at (λ k. position sameMarks (startState (nodesOf b) (getD (readQuery b .produced) k [])) (statesOf b)) 0 (length (readQuery b .produced)) p 0 h
-      ∙ ap (λ k. position sameMarks (startState (nodesOf b) (getD (readQuery b .produced) k [])) (statesOf b)) (zero-add p)
+  starts-at p h = entry-of (λ k. position sameMarks (startState (nodesOf b) (getD (readQuery b .produced) k [])) (statesOf b)) (length (readQuery b .produced)) p 0 h
 
   pub starts-count : length (contentsOf b .starts) ≡ length (readQuery b .produced)
   unfolding tableOf
@@ -54,5 +51,4 @@ module _ (b : Bytes) where
       ∙ sym (getD-drop (0 + i * w) (flatten rows) s 0)
       ∙ sym (getD-take w (drop (0 + i * w) (flatten rows)) s 0 l)
       ∙ ap (λ r. getD r s 0) (row ∙ getD-map rowOf (statesOf b) i [] [] h)
-      ∙ getD-map (λ n. numberOf (taken b (getD (statesOf b) i []) n)) (upFrom 0 (readQuery b .sets)) s 0 0 (rw upFrom-length (rw set-count l))
-      ∙ ap (λ n. numberOf (taken b (getD (statesOf b) i []) n)) (upFrom-getD 0 (readQuery b .sets) s 0 (rw set-count l) ∙ zero-add s)
+      ∙ entry-of (λ n. numberOf (taken b (getD (statesOf b) i []) n)) (readQuery b .sets) s 0 (rw set-count l)

@@ -10,7 +10,7 @@ use Rattle.theory.specs.Tests.{position}
 use Rattle.theory.specs.Query.{Bytes, byteAt, rowAt}
 use Rattle.theory.proofs.Reflect.{decides-order}
 use Rattle.theory.proofs.RowLaws.{entries}
-use Rattle.theory.proofs.RangeLaws.{entry-at, entry-count, map-more}
+use Rattle.theory.proofs.RangeLaws.{entry-of, entry-count, map-more}
 use Rattle.closure.specs.Work.{stateRows}
 use Rattle.states.specs.States.{sameRow}
 use Rattle.theory.proofs.PositionLaws.{position-is}
@@ -34,7 +34,7 @@ module _ (q : ℕ) (work : Bytes) where
   rows-count = entry-count (λ i. rowAt 0 32 i work) 0 q
 
   pub rows-at : (i : ℕ) → i < q → getD (stateRows q work) i [] ≡ rowAt 0 32 i work
-  rows-at i h = entry-at (λ j. rowAt 0 32 j work) 0 q i [] h ∙ ap (λ j. rowAt 0 32 j work) (zero-add i)
+  rows-at i h = entry-of (λ j. rowAt 0 32 j work) q i [] h
 
   -- rows whose bytes are kept are kept
   pub rows-kept : (after : Bytes) → q * 32 ≤ length work → length after ≡ length work → ((j : ℕ) → j < q * 32 → byteAt after j ≡ byteAt work j) → stateRows q after ≡ stateRows q work
