@@ -1,17 +1,15 @@
--- A walk from the front of an order, up to the first column that fails a test or the n-th: its kept part. A search is such a walk too.
-use Prim.Native.Nat.{ℕ, zero, suc, _+_, _-_, _<_, _≤_, min}
+-- A walk from the front of an order, up to the first column that fails a test or the n-th: its kept part.
+use Prim.Native.Nat.{ℕ, suc, _+_, _-_, _<_, _≤_, min}
 use native.Mathlib.Nat.{zero-add, sub-zero}
 use native.Mathlib.Numerals.{add-one}
 use native.Mathlib.Omega.{arith}
-use mathlib.Core.Path.{_≡_, refl, sym, _∙_, ap}
-use mathlib.Core.Bool.{Bool, true, false, not}
-use mathlib.Core.List.{List, [], _∷_}
-use lib.Dec.{eqb}
+use mathlib.Core.Path.{_≡_, sym, _∙_, ap}
+use mathlib.Core.Bool.{Bool, true, false}
+use mathlib.Core.List.{List}
 use lib.ListN.{length, take, drop, getD, drop-of-length-le}
 use lib.Seq.{drop-cons, take-append-seam}
-use borrow.Author.Tests.{eq-eqb, ne-eqb}
-use Rattle.theory.specs.Tests.{Says, holds, fails, position}
-use Rattle.theory.specs.Construction.{keep, keepFirst}
+use Rattle.theory.specs.Tests.{Says, holds, fails}
+use Rattle.theory.specs.Construction.{keep}
 use Rattle.theory.proofs.Reflect.{says-leb}
 use Rattle.theory.proofs.KeptLaws.{keep-prefix, keep-nil}
 
@@ -49,27 +47,3 @@ module _ (w : ℕ → Bool) (n : ℕ) (l : List ℕ) where
         let less : n - i ≡ suc (n - (i + 1)) = omega arith in
         let none : length (keep w (n - i) (drop i l)) ≡ 0 = rw (less, drop-cons l i 0 (omega arith), e) in
         omega (arith, m .rest, none)
-
--- the place of c is the length of the beginning without it
-pub position-run : (c : ℕ) (l : List ℕ) → length (keep (λ x. not (eqb c x)) (length l) l) ≡ position eqb c l
-position-run c [] = refl
-position-run c (x ∷ l) = go (eqb c x) (position-run c l)
-  where
-    go : (b : Bool) → length (keep (λ y. not (eqb c y)) (length l) l) ≡ position eqb c l
-        → length (keepFirst (not b) x (keep (λ y. not (eqb c y)) (length l) l)) ≡ elim b [ true ↦ zero | false ↦ suc (position eqb c l) ]
-    go true e = refl
-    go false e = ap suc e
-
--- c was not met among the first i columns
-abbrev pub Unmet : ℕ → List ℕ → ℕ → Type 0
-Unmet c l i = Met (λ x. not (eqb c x)) (length l) l i
-
-module _ (c : ℕ) (l : List ℕ) {i : ℕ} (m : Unmet c l i) where
-  pub unmet-more : i < length l → (getD l i 0 ≡ c → ⊥) → Unmet c l (i + 1)
-  unmet-more h n = met-more _ _ l m (omega arith) (ap not (ne-eqb c (getD l i 0) (λ e. n (sym e))))
-
-  pub unmet-end : length l ≤ i → i ≡ position eqb c l
-  unmet-end h = met-end _ _ l m (omega arith) ∙ position-run c l
-
-  pub unmet-found : i < length l → getD l i 0 ≡ c → i ≡ position eqb c l
-  unmet-found h e = met-stop _ _ l m (omega arith) (ap not (eq-eqb c (getD l i 0) (sym e))) ∙ position-run c l

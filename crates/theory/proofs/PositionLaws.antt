@@ -1,6 +1,7 @@
 -- The number of a thing in a list: where it stands, that it stays when the list grows, and that it is the same among the images of things told apart by them. Adding a thing to a list gives a new one the next number.
-use Prim.Native.Nat.{ℕ, zero, suc, _<_, _≤_, zero-le, suc-le-suc}
+use Prim.Native.Nat.{ℕ, zero, suc, _+_, _<_, _≤_, zero-le, suc-le-suc}
 use native.Mathlib.Nat.{not-suc-le-zero, le-of-suc-le-suc, lt-of-lt-of-le}
+use native.Mathlib.Omega.{arith}
 use mathlib.Core.Path.{_≡_, refl, sym, _∙_, ap}
 use mathlib.Core.Bool.{Bool, true, false}
 use mathlib.Core.Logic.{⊎-elim}
@@ -8,12 +9,18 @@ use mathlib.Core.List.{List, [], _∷_, _++_, map, map-append, List·Memᴰ, Lis
 use lib.Dec.{ltb}
 use lib.ListN.{length, take, drop, getD}
 use lib.Seq.{take-length, length-take-le, getD-take, drop-cons}
+use borrow.Author.Count.{below-none, below-more}
 use Rattle.theory.specs.Tests.{Says, holds, fails, Decides, member, position}
 use Rattle.theory.specs.Closure.{add}
 use Rattle.theory.proofs.Reflect.{says-member, says-ltb, says-as, says-one, true-says, false-says}
 use Rattle.theory.proofs.ListLaws.{member-getD}
 use Rattle.theory.proofs.RowLaws.{all-snoc}
 use Rattle.theory.proofs.ClosureLaws.{add-ind}
+
+-- a search passed the first i things: none of them is x
+pub record Unmet {A : Type 0} (x : A) (l : List A) (d : A) (i : ℕ) : Type 0 where
+  pub within : i ≤ length l
+  pub before : (k : ℕ) → k < i → x ≡ getD l k d → ⊥
 
 -- n is the number of the first thing that is x; the length where none is
 data Spot {A : Type 0} (x : A) : List A → ℕ → Type 0 where
@@ -76,6 +83,21 @@ module _ {A : Type 0} {same : A → A → Bool} (dec : Decides same) (x : A) whe
   -- the number of a list's first thing that is x, or the length
   pub position-is : (l : List A) (i : ℕ) (d : A) → i ≤ length l → ((k : ℕ) → k < i → x ≡ getD l k d → ⊥) → (i < length l → x ≡ getD l i d) → position same x l ≡ i
   position-is l i d h before there = spot-one (spot l) (spot-at l i d h before there)
+
+  -- the search begins, goes on, ends without the thing, and meets it
+  module _ (l : List A) (d : A) where
+    pub unmet-none : Unmet x l d 0
+    unmet-none = record { within = zero-le; before = below-none _ }
+
+    module _ {i : ℕ} (u : Unmet x l d i) where
+      pub unmet-more : i < length l → (getD l i d ≡ x → ⊥) → Unmet x l d (i + 1)
+      unmet-more h n = record { within = omega arith; before = below-more _ i (u .before) (λ e. n (sym e)) }
+
+      pub unmet-end : length l ≤ i → i ≡ position same x l
+      unmet-end h = sym (position-is l i d (u .within) (u .before) (λ b. let z : ⊥ = omega arith in absurd z))
+
+      pub unmet-found : i < length l → getD l i d ≡ x → i ≡ position same x l
+      unmet-found h e = sym (position-is l i d (u .within) (u .before) (λ b. sym e))
 
   pub position-within : (l : List A) → position same x l ≤ length l
   position-within l = spot-within (spot l)

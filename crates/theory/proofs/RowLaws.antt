@@ -5,7 +5,7 @@ use native.Mathlib.Omega.{arith}
 use mathlib.Core.Path.{_≡_, refl, sym, _∙_, ap, ap₂, subst}
 use mathlib.Core.Logic.{⊎-elim}
 use mathlib.Core.Bool.{Bool, true, false}
-use mathlib.Core.List.{List, [], _∷_, _++_, map, append-assoc, List·Memᴰ, List·Memᴰ·head, List·Memᴰ·tail, List·Memᴰ·cases-cons, List·Memᴰ·append-cases, List·Memᴰ·eq-of-singleton, flatten}
+use mathlib.Core.List.{List, [], _∷_, _++_, map, append-nil, append-assoc, List·Memᴰ, List·Memᴰ·head, List·Memᴰ·tail, List·Memᴰ·cases-cons, List·Memᴰ·append-cases, List·Memᴰ·eq-of-singleton, flatten}
 use lib.Dec.{eqb}
 use lib.ListN.{length, take, drop, getD, length-append}
 use lib.Pow.{pow-mono}
@@ -69,6 +69,11 @@ module _ (w : ℕ) where
   row-of-flatten (r ∷ rows) back (suc i) h l =
       let e : length r ≡ w = h r (List·Memᴰ·head refl) in
       rw (suc-mul, append-assoc, add-comm, ← e, drop-append-add, e) (row-of-flatten rows back i (λ s m. h s (List·Memᴰ·tail m)) (le-of-suc-le-suc l))
+
+  -- entry s of row i, read from the rows end to end
+  pub entry-of-flatten : (rows : List (List ℕ)) (i s : ℕ) → Wide rows → i < length rows → s < w → getD (flatten rows) (i * w + s) 0 ≡ getD (getD rows i []) s 0
+  entry-of-flatten rows i s h l k =
+      sym (getD-take w (drop (i * w) (flatten rows)) s 0 k ∙ getD-drop (i * w) (flatten rows) s 0) ∙ ap (λ r. getD r s 0) (rw append-nil at (row-of-flatten rows [] i h l))
 
   -- row i, read where the rows begin at base, with anything before and behind them
   pub row-of-rows : (base : ℕ) (front : List ℕ) (rows : List (List ℕ)) (back : List ℕ) (i : ℕ) → Wide rows → length front ≡ base → i < length rows
