@@ -4,16 +4,16 @@ use native.Mathlib.Nat.{add-zero, sub-zero, suc-mul, mul-le-mul}
 use native.Mathlib.Numerals.{add-one}
 use native.Mathlib.Omega.{arith}
 use mathlib.Core.Path.{_≡_, refl, sym, _∙_, ap, subst}
-use mathlib.Core.Bool.{Bool}
 use mathlib.Core.List.{List, [], _∷_, map, List·Memᴰ·head, IsPrefix, flatten}
 use lib.ListN.{length, drop, getD, set, length-set}
 use lib.Seq.{getD-drop, getD-set-same, getD-set-other}
+use borrow.Author.Count.{below-more}
 use Rattle.theory.specs.Limits.{maxStates}
-use Rattle.theory.specs.Tests.{Says, holds, fails, position, upFrom}
+use Rattle.theory.specs.Tests.{position, upFrom}
 use Rattle.theory.specs.Closure.{add, addAll}
 use Rattle.theory.specs.Construction.{Marks, sameMarks}
 use Rattle.theory.specs.Query.{Bytes, byteAt, setCount, readQuery}
-use Rattle.theory.proofs.Reflect.{decides-marks, says-eqb}
+use Rattle.theory.proofs.Reflect.{decides-marks}
 use Rattle.theory.proofs.QueryLaws.{query-sizes, set-count}
 use Rattle.theory.proofs.ClosureLaws.{addAll-keeps, addAll-has, walk-keeps}
 use Rattle.theory.specs.Scratch.{successorsPart}
@@ -117,11 +117,8 @@ module _ {b work : Bytes} {count i : ℕ} where
           listed = listed-kept at number (omega arith) (j .fits few);
           here = here;
           ahead = on h;
-          stored = λ k l. go k (omega arith) (says-eqb k at) written (omega arith);
+          stored = λ k l.
+              below-more (λ i. byteAt (set after (successorsPart + at) number) (successorsPart + i) ≡ getD (flatten (contentsOf b .successors)) i 0) at
+              (λ i o. getD-set-other after (successorsPart + at) (successorsPart + i) number 0 (omega arith) ∙ behind-kept work after (j .behind) i ∙ v .stored i o)
+              (getD-set-same after (successorsPart + at) number 0 (omega arith) ∙ written) k (omega arith);
         }
-      where
-        go : (k : ℕ) → k < i * setCount b + s + 1 → {t : Bool} → Says (k ≡ i * setCount b + s) t → number ≡ getD (flatten (contentsOf b .successors)) (i * setCount b + s) 0
-            → successorsPart + (i * setCount b + s) < length after
-            → byteAt (set after (successorsPart + (i * setCount b + s)) number) (successorsPart + k) ≡ getD (flatten (contentsOf b .successors)) k 0
-        go k l (holds e) w r = rw e (getD-set-same after (successorsPart + (i * setCount b + s)) number 0 r ∙ w)
-        go k l (fails n) w r = getD-set-other after (successorsPart + (i * setCount b + s)) (successorsPart + k) number 0 (omega arith) ∙ behind-kept work after (j .behind) k ∙ v .stored k (omega arith)
