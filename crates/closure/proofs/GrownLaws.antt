@@ -10,12 +10,14 @@ use Rattle.theory.specs.Orders.{Order, Orderings}
 use Rattle.theory.specs.Construction.{Marks, marked}
 use Rattle.theory.specs.Query.{Bytes}
 use Rattle.theory.proofs.ListLaws.{Within}
+use Rattle.theory.proofs.StateLaws.{marked-at}
+use Rattle.theory.proofs.RowLaws.{getD-map}
 use Rattle.derivation.specs.Keys.{keyOf}
 use Rattle.closure.specs.Work.{packMarks}
 use Rattle.closure.specs.Marks.{inMarks, withMark}
 use Rattle.closure.specs.Close.{Marked, none, unknown, there, new, Turned, over, visit, Visited, begun, turn}
 use Rattle.closure.proofs.MarkLaws.{marked-pack, pack-mark}
-use Rattle.closure.proofs.NumberLaws.{marked-at, set-keeps, set-only, key-at}
+use Rattle.closure.proofs.NumberLaws.{set-keeps, set-only}
 
 -- the bytes m hold marks that have those of ms, and all of them are of R
 pub record Grown (ns : List Order) (R : Orderings) (ms : Marks) (m : Bytes) : Type 0 where
@@ -48,7 +50,7 @@ module _ (ns : List Order) (few : length ns ≤ 256) (R : Orderings) where
   marked-grown (there h a t) ms g f = marked-grown t ms g (λ i l k. f i l (List·Memᴰ·tail k))
   marked-grown (new {i} h a t) ms g f =
       let bound : i < length ns = rw (length-map ns keyOf) at (h .below) in
-      let own : R (getD ns i []) = f i bound (List·Memᴰ·head (sym (key-at ns i bound) ∙ h .key)) in
+      let own : R (getD ns i []) = f i bound (List·Memᴰ·head (sym (getD-map keyOf ns i 0 [] bound) ∙ h .key)) in
       marked-grown t ms (grown-set g i bound own) (λ j l k. f j l (List·Memᴰ·tail k))
 
   -- nodes are visited
@@ -58,7 +60,7 @@ module _ (ns : List Order) (few : length ns ≤ 256) (R : Orderings) where
     turned-grown {i} {m} {ms} (visit e t) h g =
         let set : getD (g .after) i false ≡ true = sym (marked-pack (g .after) i (omega arith)) ∙ ap (λ n. inMarks n i) (sym (g .packed)) ∙ e in
         let own = g .sound (getD ns i []) (marked-at (g .after) ns i h set) in
-        marked-grown t ms g (λ j l k. closed i j h l own (rw (key-at ns i h) at k))
+        marked-grown t ms g (λ j l k. closed i j h l own (rw (getD-map keyOf ns i 0 [] h) at k))
 
     pub visited-grown : {i r : ℕ} {m v m′ v′ : Bytes} {ms : Marks} → Visited out (map keyOf ns) m v i m′ v′ r → i ≤ length ns → Grown ns R ms m → Grown ns R ms m′
     visited-grown begun h g = g

@@ -1,8 +1,8 @@
 -- A set of nodes as bytes: each mark is the bit at its place, setting a mark sets that bit, and different sets have different bytes.
-use Prim.Native.Nat.{ℕ, zero, suc, _+_, _*_, _/_, _%_, _^_, _-_, _<_, _≤_, max}
-use native.Mathlib.Nat.{zero-add, div-add-mod, pow-succ', not-suc-le-zero, le-of-suc-le-suc}
+use Prim.Native.Nat.{ℕ, zero, suc, _+_, _*_, _/_, _%_, _^_, _-_, _<_, _≤_}
+use native.Mathlib.Nat.{div-add-mod, pow-succ', not-suc-le-zero, le-of-suc-le-suc}
 use native.Mathlib.Omega.{arith}
-use mathlib.Core.Path.{_≡_, refl, sym, _∙_, ap}
+use mathlib.Core.Path.{_≡_, sym, _∙_, ap}
 use mathlib.Core.Bool.{Bool, true, false}
 use mathlib.Core.List.{List, [], _∷_}
 use lib.Bits.{bitOr, or-step, or-zero-r}
@@ -14,8 +14,8 @@ use Rattle.theory.specs.Construction.{Marks}
 use Rattle.theory.specs.Query.{byteAt}
 use Rattle.theory.specs.Table.{bit, number}
 use Rattle.theory.proofs.Reflect.{says-ltb, says-eqb}
-use Rattle.theory.proofs.RowLaws.{number-bit}
-use Rattle.theory.proofs.RangeLaws.{entry-at, entry-count}
+use Rattle.theory.proofs.RowLaws.{bit-below, eqb-bit, number-bit}
+use Rattle.theory.proofs.RangeLaws.{entry-of, entry-count}
 use Rattle.closure.specs.Work.{packMarks}
 use Rattle.closure.specs.Marks.{inMarks, withMark}
 
@@ -26,11 +26,7 @@ pack-length ms = entry-count (λ k. number (take 8 (drop (8 * k) ms))) 0 32
 
 pub pack-byte : (ms : Marks) (q : ℕ) → q < 32 → byteAt (packMarks ms) q ≡ number (take 8 (drop (8 * q) ms))
 unfolding packMarks
-pack-byte ms q h = rw zero-add at (entry-at (λ k. number (take 8 (drop (8 * k) ms))) 0 32 q 0 h)
-
-bit-test : (b : Bool) → eqb (bit b) 1 ≡ b
-bit-test true = refl
-bit-test false = refl
+pack-byte ms q h = entry-of (λ k. number (take 8 (drop (8 * k) ms))) 32 q 0 h
 
 -- each mark is the bit at its place
 pub marked-pack : (ms : Marks) (i : ℕ) → i < 256 → inMarks (packMarks ms) i ≡ getD ms i false
@@ -41,7 +37,7 @@ marked-pack ms i h =
     let part = take 8 (drop (8 * q) ms) in
     let place : 8 * q + r ≡ i = div-add-mod i 8 in
     let entry : getD part r false ≡ getD ms i false = getD-take 8 (drop (8 * q) ms) r false low ∙ getD-drop (8 * q) ms r false ∙ ap (λ k. getD ms k false) place in
-    ap (λ n. eqb (n / 2 ^ r % 2) 1) (pack-byte ms q (omega arith)) ∙ ap (λ n. eqb n 1) (number-bit part r ∙ ap bit entry) ∙ bit-test (getD ms i false)
+    ap (λ n. eqb (n / 2 ^ r % 2) 1) (pack-byte ms q (omega arith)) ∙ ap (λ n. eqb n 1) (number-bit part r ∙ ap bit entry) ∙ eqb-bit (getD ms i false)
 
 -- different sets have different bytes
 pub pack-injective : (a b : Marks) → length a ≡ length b → length a ≤ 256 → packMarks a ≡ packMarks b → a ≡ b
@@ -50,23 +46,18 @@ pack-injective a b e h p =
 
 -- setting a bit of a number
 bit-half : (b : Bool) (n : ℕ) → ((bit b + 2 * n) / 2 ≡ n) × ((bit b + 2 * n) % 2 ≡ bit b)
-bit-half true n = (omega arith, omega arith)
-bit-half false n = (omega arith, omega arith)
-
-bit-max : (b : Bool) → (max (bit b) 1 ≡ 1) × (max (bit b) 0 ≡ bit b)
-bit-max true = (refl, refl)
-bit-max false = (refl, refl)
+bit-half b n = (omega (arith, bit-below b), omega (arith, bit-below b))
 
 number-set : (bs : List Bool) (k : ℕ) → k < length bs → number (set bs k true) ≡ bitOr (number bs) (2 ^ k)
 number-set [] k h = absurd (not-suc-le-zero h)
 number-set (b ∷ bs) zero h =
     let t = bit-half b (number bs) in
-    sym (or-step (bit b + 2 * number bs) 1 ∙ rw (t .0, t .1, or-zero-r, bit-max b .0) (omega arith))
+    sym (or-step (bit b + 2 * number bs) 1 ∙ rw (t .0, t .1, or-zero-r) (omega (arith, bit-below b)))
 number-set (b ∷ bs) (suc k) h =
     let t = bit-half b (number bs) in
     let half : 2 ^ suc k / 2 ≡ 2 ^ k = rw pow-succ' (omega arith) in
     let even : 2 ^ suc k % 2 ≡ 0 = rw pow-succ' (omega arith) in
-    sym (or-step (bit b + 2 * number bs) (2 ^ suc k) ∙ rw (t .0, t .1, half, even, bit-max b .1, ← number-set bs k (le-of-suc-le-suc h)) (omega arith))
+    sym (or-step (bit b + 2 * number bs) (2 ^ suc k) ∙ rw (t .0, t .1, half, even, ← number-set bs k (le-of-suc-le-suc h)) (omega arith))
 
 -- the eight marks from 8 * q on, after mark i is set: that mark is set among them, or they are as before
 part-set : (ms : Marks) (q r : ℕ) → r < 8 → take 8 (drop (8 * q) (set ms (8 * q + r) true)) ≡ set (take 8 (drop (8 * q) ms)) r true

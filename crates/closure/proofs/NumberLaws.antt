@@ -1,11 +1,11 @@
 -- Nodes by their numbers: the marked ones, that marks tell different sets apart, and the number that a key has.
-use Prim.Native.Nat.{ℕ, zero, suc, _<_, suc-le-suc}
+use Prim.Native.Nat.{ℕ, zero, suc, _<_}
 use native.Mathlib.Nat.{not-suc-le-zero, le-of-suc-le-suc}
 use native.Mathlib.Omega.{arith}
 use mathlib.Core.Path.{_≡_, refl, sym, _∙_, ap, subst}
-use mathlib.Core.Bool.{Bool, true, false, false≢true}
-use mathlib.Core.Logic.{_⊎_, inl, inr, ⊎-elim}
-use mathlib.Core.List.{List, [], _∷_, map, List·Memᴰ, List·Memᴰ·head, List·Memᴰ·tail, List·Memᴰ·not-nil, List·Memᴰ·cases-cons, Memᴰ·cast}
+use mathlib.Core.Bool.{Bool, true, false}
+use mathlib.Core.Logic.{_⊎_, inl, inr}
+use mathlib.Core.List.{List, [], List·Memᴰ, Memᴰ·cast}
 use lib.Dec.{eqb}
 use lib.ListN.{length, take, getD, set}
 use lib.Seq.{length-take-le, getD-set-same, getD-set-other, ext-getD}
@@ -15,25 +15,9 @@ use Rattle.theory.specs.Query.{Bytes}
 use Rattle.theory.specs.Construction.{Marks, marked}
 use Rattle.theory.proofs.Reflect.{says-eqb, decides-number}
 use Rattle.theory.proofs.ListLaws.{Within, member-getD}
-use Rattle.theory.proofs.PositionLaws.{position-bound}
-use Rattle.derivation.specs.Keys.{keyOf}
+use Rattle.theory.proofs.StateLaws.{at-marked, marked-at}
+use Rattle.theory.proofs.PositionLaws.{position-bound, position-reads}
 use Rattle.closure.specs.Close.{Room, Sought}
-
--- the marked nodes are those whose mark is set
-pub at-marked : (ms : Marks) (ns : List Order) (o : Order) → List·Memᴰ o (marked ms ns) → (i : ℕ) × (i < length ns) × (getD ms i false ≡ true) × (getD ns i [] ≡ o)
-at-marked [] ns o m = absurd (List·Memᴰ·not-nil m)
-at-marked (b ∷ ms) [] o m = absurd (List·Memᴰ·not-nil m)
-at-marked (true ∷ ms) (n ∷ ns) o m =
-    ⊎-elim (λ e. (zero, omega arith, refl, sym e)) (λ k. let t = at-marked ms ns o k in (suc (t .0), suc-le-suc (t .1), t .2, t .3)) (List·Memᴰ·cases-cons m)
-at-marked (false ∷ ms) (n ∷ ns) o m = let t = at-marked ms ns o m in (suc (t .0), suc-le-suc (t .1), t .2, t .3)
-
-pub marked-at : (ms : Marks) (ns : List Order) (i : ℕ) → i < length ns → getD ms i false ≡ true → List·Memᴰ (getD ns i []) (marked ms ns)
-marked-at [] ns i h e = absurd (false≢true e)
-marked-at (b ∷ ms) [] i h e = absurd (not-suc-le-zero h)
-marked-at (true ∷ ms) (n ∷ ns) zero h e = List·Memᴰ·head refl
-marked-at (false ∷ ms) (n ∷ ns) zero h e = absurd (false≢true e)
-marked-at (true ∷ ms) (n ∷ ns) (suc i) h e = List·Memᴰ·tail (marked-at ms ns i (le-of-suc-le-suc h) e)
-marked-at (false ∷ ms) (n ∷ ns) (suc i) h e = marked-at ms ns i (le-of-suc-le-suc h) e
 
 -- with one mark more there is one node more
 module _ (ms : Marks) (ns : List Order) (i : ℕ) (even : length ms ≡ length ns) where
@@ -75,27 +59,11 @@ marks-unique {ns} d a b la lb f g =
     alike false true p q = q refl
     alike false false p q = refl
 
--- the key of node i
-pub key-at : (ns : List Order) (i : ℕ) → i < length ns → getD (map keyOf ns) i 0 ≡ keyOf (getD ns i [])
-key-at [] i h = absurd (not-suc-le-zero h)
-key-at (n ∷ ns) zero h = refl
-key-at (n ∷ ns) (suc i) h = key-at ns i (le-of-suc-le-suc h)
-
--- what stands at a key's number is the key
-position-at : (x : ℕ) (l : List ℕ) → position eqb x l < length l → getD l (position eqb x l) 0 ≡ x
-position-at x [] h = absurd (not-suc-le-zero h)
-position-at x (y ∷ l) h = go (says-eqb x y) h (position-at x l)
-  where
-    go : {b : Bool} → Says (x ≡ y) b → elim b [ true ↦ zero | false ↦ suc (position eqb x l) ] < suc (length l) → (position eqb x l < length l → getD l (position eqb x l) 0 ≡ x) →
-        getD (y ∷ l) (elim b [ true ↦ zero | false ↦ suc (position eqb x l) ]) 0 ≡ x
-    go (holds e) b rest = sym e
-    go (fails n) b rest = rest (le-of-suc-le-suc b)
-
 -- the number of a key that was searched for
 pub sought : {x n r : ℕ} {nodes : List ℕ} {marks : Bytes} → Room nodes n marks → r ≡ position eqb x (take n nodes) → Sought (take n nodes) n x r
 sought {x} {n} {nodes = nodes} room e =
     let l = length-take-le n nodes (omega (arith, room .slots, room .few)) in
     record {
-      found = λ h. record { below = omega arith; key = ap (λ i. getD (take n nodes) i 0) e ∙ position-at x (take n nodes) (omega arith) };
+      found = λ h. record { below = omega arith; key = ap (λ i. getD (take n nodes) i 0) e ∙ position-reads decides-number x 0 (take n nodes) (omega arith) };
       absent = λ h m. let no : ⊥ = omega (arith, position-bound decides-number x (take n nodes) m) in no;
     }

@@ -1,9 +1,9 @@
 -- The rules of a set, by the numbers of its dependencies, and their results one after the other.
 use Prim.Native.Nat.{ℕ, zero, suc, _+_, _<_}
 use native.Mathlib.Nat.{add-zero, add-suc}
-use mathlib.Core.Path.{_≡_, refl, sym, _∙_, ap}
+use mathlib.Core.Path.{_≡_, refl, _∙_, ap}
 use mathlib.Core.Bool.{Bool, true, false}
-use mathlib.Core.List.{List, [], _∷_, _++_, map, map-append, append-nil, append-assoc, flatten}
+use mathlib.Core.List.{List, [], _∷_, _++_, map, map-append, flatten}
 use lib.Dec.{eqb}
 use lib.ListN.{length, take, getD}
 use Rattle.theory.specs.Tests.{pick, upFrom}
@@ -11,7 +11,7 @@ use Rattle.theory.specs.Orders.{Order, Rule, rulesIn, rulesOf}
 use Rattle.theory.specs.Construction.{results}
 use Rattle.theory.specs.Query.{Bytes, dependencyCount, orderCount, dependencyAt, readQuery}
 use Rattle.derivation.specs.Keys.{keptKeys}
-use Rattle.theory.proofs.RangeLaws.{take-more}
+use Rattle.theory.proofs.RangeLaws.{take-more, flatten-snoc}
 use Rattle.closure.specs.Close.{ownAt, ownOf, rulesAt}
 
 -- the rules of the set's dependencies are the set's
@@ -30,18 +30,7 @@ unfolding readQuery
 own-rules b s e = ap (rulesAt b) e ∙ rules-in b s 0 (dependencyCount b) ∙ ap (λ j. rulesIn s (map (dependencyAt b) (upFrom j (dependencyCount b)))) (add-zero (orderCount b))
 
 -- the results of one dependency more
-rules-more : (b : Bytes) (o : Order) (own : List ℕ) (i : ℕ) →
-    flatten (map (λ r. results r o) (rulesAt b (own ++ (i ∷ [])))) ≡ flatten (map (λ r. results r o) (rulesAt b own)) ++ results (dependencyAt b (orderCount b + i) .rule) o
-unfolding flatten
-rules-more b o [] i = append-nil (results (dependencyAt b (orderCount b + i) .rule) o)
-rules-more b o (k ∷ own) i =
-    let here = results (dependencyAt b (orderCount b + k) .rule) o in
-    ap (λ l. here ++ l) (rules-more b o own i) ∙ sym (append-assoc here (flatten (map (λ r. results r o) (rulesAt b own))) (results (dependencyAt b (orderCount b + i) .rule) o))
-
 pub results-more : (w n : ℕ) (b : Bytes) (o : Order) (own : List ℕ) (j : ℕ) → j < length own →
     keptKeys w n (flatten (map (λ r. results r o) (rulesAt b (take (j + 1) own))))
     ≡ keptKeys w n (flatten (map (λ r. results r o) (rulesAt b (take j own)))) ++ keptKeys w n (results (dependencyAt b (orderCount b + getD own j 0) .rule) o)
-results-more w n b o own j h =
-    ap (λ l. keptKeys w n (flatten (map (λ r. results r o) (rulesAt b l)))) (take-more own j 0 h)
-    ∙ ap (keptKeys w n) (rules-more b o (take j own) (getD own j 0))
-    ∙ map-append _ (flatten (map (λ r. results r o) (rulesAt b (take j own)))) (results (dependencyAt b (orderCount b + getD own j 0) .rule) o)
+results-more w n b o own j h = simp (take-more own j 0 h, map-append, flatten-snoc)

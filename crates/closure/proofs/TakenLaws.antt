@@ -6,22 +6,22 @@ use mathlib.Core.Bool.{true, false}
 use mathlib.Core.Logic.{_↔_}
 use mathlib.Core.List.{List, [], map, List·Memᴰ, Memᴰ·cast, Memᴰ·map, Memᴰ·of-map}
 use lib.ListN.{length, getD, take, length-map}
-use Rattle.theory.specs.Orders.{Order, Orderings, Query, rulesOf, allRules, Step, Reach, given, step}
-use Rattle.theory.specs.Closure.{Found, first, next}
+use Rattle.theory.specs.Orders.{Order, Orderings, Query, rulesOf, Step, Reach, given, step}
 use Rattle.theory.specs.Construction.{kept, keptSteps, Node, Marks, marked, takeSet}
 use Rattle.theory.specs.Query.{Bytes, dependencyCount, readQuery}
 use Rattle.theory.proofs.ListLaws.{member-getD}
-use Rattle.theory.proofs.NodeLaws.{member-kept-steps, kept-steps-member, node-next, node-found, nodes-distinct, nodes-exactly}
-use Rattle.theory.proofs.StateLaws.{take-exactly}
+use Rattle.theory.proofs.NodeLaws.{member-kept-steps, kept-steps-member, node-next, nodes-distinct, nodes-exactly}
+use Rattle.theory.proofs.StateLaws.{at-marked, marked-at, take-exactly}
 use Rattle.query.proofs.PassedLaws.{query-passed}
+use Rattle.theory.proofs.RowLaws.{getD-map}
 use Rattle.derivation.specs.Keys.{keyOf, Small, keySteps}
 use Rattle.derivation.proofs.KeyLaws.{key-injective}
-use Rattle.nodes.proofs.NodeKeys.{kept-small, produced-small, key-steps, nodes-count}
+use Rattle.nodes.proofs.NodeKeys.{kept-small, key-steps, nodes-small, nodes-count}
 use Rattle.closure.specs.Work.{packMarks, Ready, nodesOf}
 use Rattle.closure.specs.Marks.{inMarks}
 use Rattle.closure.specs.Close.{Room, Visiting}
 use Rattle.closure.proofs.MarkLaws.{marked-pack}
-use Rattle.closure.proofs.NumberLaws.{at-marked, marked-at, marks-unique, key-at}
+use Rattle.closure.proofs.NumberLaws.{marks-unique}
 use Rattle.closure.proofs.GrownLaws.{Grown, grown-none, visited-grown}
 use Rattle.closure.proofs.TraceLaws.{key-count}
 use Rattle.closure.proofs.VisitLaws.{Done, visited-zero, visit-done}
@@ -55,12 +55,8 @@ module _ {b : Bytes} {nodes : List ℕ} {n w l : ℕ} (ready : Ready b nodes n w
   exact = nodes-exactly q (omega (arith, node-count, ready .listed .few))
 
   -- a node has a key of its own
-  found-small : (o : Order) → Found (keptSteps q (allRules q)) (q .produced) o → Small o
-  found-small o (first m) = produced-small b w l (ready .prepared) o m
-  found-small o (next {x} f m) = let t = member-kept-steps q (allRules q) x o m in subst Small (t .2) (kept-small b w l (ready .prepared) (t .0))
-
   node-small : (i : ℕ) → i < length ns → Small (getD ns i [])
-  node-small i h = found-small (getD ns i []) (node-found q (getD ns i []) (exact (getD ns i []) .0 (member-getD ns i [] h)))
+  node-small i h = nodes-small b w l (ready .prepared) (getD ns i []) (member-getD ns i [] h)
 
   pub ready-room : {m : Bytes} → length m ≡ 32 → Room nodes n m
   ready-room h = record { slots = ready .listed .room; few = ready .listed .few; long = h }
@@ -97,14 +93,14 @@ module _ {b : Bytes} {nodes : List ℕ} {n w l : ℕ} (ready : Ready b nodes n w
           let seen : inMarks m i ≡ true = ap (λ d. inMarks d i) (g .packed) ∙ marked-pack (g .after) i (omega (arith, a .1, node-count)) ∙ a .2 in
           let small = node-small i (a .1) in
           let result : List·Memᴰ x (keySteps w l (rulesOf q s) (getD ks i 0)) =
-          rw (key-at ns i (a .1), key-steps b w l (ready .prepared) (rulesOf q s) (getD ns i []) small)
+          rw (getD-map keyOf ns i 0 [] (a .1), key-steps b w l (ready .prepared) (rulesOf q s) (getD ns i []) small)
           (Memᴰ·map keyOf (kept-steps-member q (rulesOf q s) (getD ns i []) r (rw (← a .3) at st))) in
           let there = d .given i (rw (length-map ns keyOf) (a .1)) (all i (omega (arith, a .1, node-count)) seen) x result (Memᴰ·map keyOf node) in
           let j = there .number in
           let bound : j < length ns = rw (length-map ns keyOf) at (there .node .below) in
           let set : getD (g .after) j false ≡ true = sym (marked-pack (g .after) j (omega (arith, node-count))) ∙ ap (λ d. inMarks d j) (sym (g .packed)) ∙ there .marked in
           let same : getD ns j [] ≡ kept q r =
-          key-injective (getD ns j []) (kept q r) (node-small j bound) (kept-small b w l (ready .prepared) r) (sym (key-at ns j bound) ∙ there .node .key) in
+          key-injective (getD ns j []) (kept q r) (node-small j bound) (kept-small b w l (ready .prepared) r) (sym (getD-map keyOf ns j 0 [] bound) ∙ there .node .key) in
           Memᴰ·cast (sym same) (marked-at (g .after) ns j bound set)
 
       complete : (o : Order) → Taken o → List·Memᴰ o (marked (g .after) ns)

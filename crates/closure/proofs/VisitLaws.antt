@@ -3,14 +3,13 @@ use Prim.Native.Nat.{ℕ, _+_, _-_, _/_, _%_, _^_, _<_, _≤_}
 use native.Mathlib.Nat.{zero-div}
 use native.Mathlib.Omega.{arith}
 use mathlib.Core.Path.{_≡_, refl, sym, _∙_, ap, subst}
-use mathlib.Core.Bool.{Bool, true, false, false≢true}
+use mathlib.Core.Bool.{true, false, false≢true}
 use mathlib.Core.Logic.{⊎-elim}
 use mathlib.Core.List.{List, List·Memᴰ}
 use lib.Dec.{eqb}
 use lib.ListN.{length, getD, take, replicate, getD-replicate}
-use Rattle.theory.specs.Tests.{Says, holds, fails}
+use borrow.Author.Count.{below-more}
 use Rattle.theory.specs.Query.{Bytes}
-use Rattle.theory.proofs.Reflect.{says-ltb}
 use Rattle.closure.specs.Marks.{inMarks, withMark}
 use Rattle.closure.specs.Close.{Room, Marked, none, unknown, there, new, Marking, Turned, over, visit, Turning, Visited, begun, turn, Visiting}
 use Rattle.closure.proofs.CountLaws.{mark-length, mark-keeps, mark-sets, mark-only, held, held-few}
@@ -65,15 +64,10 @@ module _ {out : ℕ → List ℕ} {ks : List ℕ} (short : length ks ≤ 256) wh
   pub visited-zero : {i r : ℕ} {m v m′ v′ : Bytes} → Visited out ks m v i m′ v′ r → r ≡ 0 → i ≤ length ks → (length m ≡ 32) × (length v ≡ 32) →
       (m′ ≡ m) × ((j : ℕ) → j < i → inMarks m j ≡ true → inMarks v′ j ≡ true)
   visited-zero begun z h l = (refl, λ j b. let no : ⊥ = omega arith in absurd no)
-  visited-zero {m} (turn {i} {v′} {v″} w t) z h l =
+  visited-zero {m} (turn {i} {v″} w t) z h l =
       let u = visited-zero w (omega arith) (omega arith) l in
       let s = rw (u .0) at (turned-zero t (omega arith) (omega arith) (visited-held w l .1)) in
-      (s .0, λ j b. go u s j b (says-ltb j i))
-    where
-      go : {x y : Bytes} → (x ≡ m) × ((j : ℕ) → j < i → inMarks m j ≡ true → inMarks v′ j ≡ true) → (y ≡ m) × (inMarks m i ≡ true → inMarks v″ i ≡ true) × ((j : ℕ) → inMarks v′ j ≡ true → inMarks v″ j ≡ true) →
-          (j : ℕ) → j < i + 1 → {b : Bool} → Says (j < i) b → inMarks m j ≡ true → inMarks v″ j ≡ true
-      go u s j b (holds o) k = s .2 j (u .1 j o k)
-      go u s j b (fails o) k = let e : j ≡ i = omega arith in subst (λ n. inMarks v″ n ≡ true) (sym e) (s .1 (subst (λ n. inMarks m n ≡ true) e k))
+      (s .0, below-more (λ j. inMarks m j ≡ true → inMarks v″ j ≡ true) i (λ j o k. s .2 j (u .1 j o k)) (s .1))
 
 -- the first n entries of an array, in their turn
 short-keys : {nodes : List ℕ} {m : Bytes} {n : ℕ} → Room nodes n m → length (take n nodes) ≤ 256

@@ -1,11 +1,12 @@
 -- Laws of keys: a key's digits, and the ordering that a key stands for.
-use Prim.Native.Nat.{ℕ, zero, suc, _+_, _*_, _/_, _%_, _≤_, _<_, zero-le}
-use native.Mathlib.Nat.{not-suc-le-zero, le-of-suc-le-suc, mod-lt, mod-eq-of-lt, div-eq-of-lt, add-mul-mod-self-left, add-mul-div-left, div-div-eq-div-mul}
+use Prim.Native.Nat.{ℕ, _+_, _*_, _/_, _%_, _≤_, _<_, zero-le}
+use native.Mathlib.Nat.{mod-lt, mod-eq-of-lt, div-eq-of-lt, add-mul-mod-self-left, add-mul-div-left, div-div-eq-div-mul}
 use native.Mathlib.Omega.{arith}
 use mathlib.Core.Path.{_≡_, refl, sym, _∙_, ap}
-use mathlib.Core.List.{List, [], _∷_, List·Memᴰ·head, List·Memᴰ·tail, List·Memᴰ·not-nil}
+use mathlib.Core.List.{List, [], _∷_, List·Memᴰ·head, List·Memᴰ·tail, List·Memᴰ·not-nil, head-eq-of-cons-eq}
 use lib.Dec.{ltb, lit<}
 use lib.ListN.{length, getD, List·getD-eq-default}
+use lib.Seq.{drop-cons}
 use borrow.Author.Tests.{lt-ltb}
 use Rattle.theory.specs.Tests.{upFrom}
 use Rattle.theory.specs.Orders.{Order}
@@ -90,12 +91,7 @@ key-injective o p s t e = sym (key-order o s) ∙ ap orderOfKey e ∙ key-order 
 
 -- within an ordering no digit is missing
 pub digit-within : (o : Order) (i : ℕ) → i < length o → getD o i 0 % 16 ≡ digitAt o i
-digit-within o i h = ap (λ x. x % 16) (getD-within o i h)
-  where
-    getD-within : (l : List ℕ) (j : ℕ) → j < length l → getD l j 0 ≡ getD l j 15
-    getD-within [] j k = absurd (not-suc-le-zero k)
-    getD-within (x ∷ l) zero k = refl
-    getD-within (x ∷ l) (suc j) k = getD-within l j (le-of-suc-le-suc k)
+digit-within o i h = ap (λ x. x % 16) (head-eq-of-cons-eq (sym (drop-cons o i 0 h) ∙ drop-cons o i 15 h))
 
 -- and behind it each is
 pub digit-past : (o : Order) (i : ℕ) → length o ≤ i → 15 ≡ digitAt o i

@@ -3,7 +3,6 @@ use Prim.Native.Nat.{ℕ, suc, _+_, _<_, _≤_, max}
 use native.Mathlib.Numerals.{add-one}
 use native.Mathlib.Omega.{arith}
 use mathlib.Core.Path.{_≡_}
-use mathlib.Core.Bool.{not}
 use mathlib.Core.List.{List}
 use lib.Dec.{eqb}
 use lib.ListN.{length, drop, getD, drop-of-length-le}
@@ -11,12 +10,6 @@ use lib.Seq.{drop-cons}
 use Rattle.theory.specs.Tests.{position}
 use Rattle.theory.specs.Orders.{Order}
 use Rattle.theory.specs.Construction.{behindAll}
-use Rattle.orders.proofs.RunLaws.{position-run}
-use Rattle.derivation.proofs.KeepLaws.{keep-length}
-
--- a place is at most the length
-pub position-within : (c : ℕ) (o : Order) → position eqb c o ≤ length o
-position-within c o = rw (position-run c o) at (keep-length (λ x. not (eqb c x)) (length o) o)
 
 -- the first place behind all the columns, of which the first i were looked for
 module _ (l : List ℕ) (o : Order) (i m : ℕ) where

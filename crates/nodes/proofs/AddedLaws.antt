@@ -3,54 +3,37 @@ use Prim.Native.Nat.{ℕ, _+_, _<_, _≤_}
 use native.Mathlib.Numerals.{add-one}
 use native.Mathlib.Omega.{arith}
 use mathlib.Core.Path.{_≡_, refl, sym, _∙_, ap}
-use mathlib.Core.Bool.{Bool, true, false}
-use mathlib.Core.List.{List, [], _∷_, _++_, dropLast, IsPrefix}
+use mathlib.Core.List.{List, [], _∷_, _++_, dropLast, List·Memᴰ, IsPrefix}
 use lib.Dec.{eqb}
 use lib.ListN.{length, take, set, length-append, length-set}
 use lib.Seq.{length-take-le, take-suc-set}
-use borrow.Author.Tests.{lt-ltb, le-ltb}
-use Rattle.theory.specs.Tests.{Decides, member, position}
+use Rattle.theory.specs.Tests.{position}
 use Rattle.theory.specs.Orders.{Order}
-use Rattle.theory.specs.Closure.{add, addAll}
+use Rattle.theory.specs.Closure.{addAll}
 use Rattle.theory.specs.Construction.{shorter}
 use Rattle.theory.proofs.Reflect.{decides-number}
-use Rattle.theory.proofs.ClosureLaws.{addAll-keeps}
-use Rattle.orders.proofs.RunLaws.{position-member}
+use Rattle.theory.proofs.ListLaws.{prefix-length}
+use Rattle.theory.proofs.ClosureLaws.{addAll-append, addAll-keeps}
+use Rattle.theory.proofs.PositionLaws.{position-bound, position-member, add-known, add-new}
 use Rattle.nodes.specs.Nodes.{Added}
-
-module _ {A : Type 0} (same : A → A → Bool) where
-  pub addAll-append : (l xs ys : List A) → addAll same l (xs ++ ys) ≡ addAll same (addAll same l xs) ys
-  addAll-append l [] ys = refl
-  addAll-append l (x ∷ xs) ys = addAll-append (add same l x) xs ys
-
-pub addAll-longer : {A : Type 0} {same : A → A → Bool} → Decides same → (l xs : List A) → length l ≤ length (addAll same l xs)
-addAll-longer dec l xs =
-    let p = addAll-keeps dec xs l in
-    omega (arith, simp length-append at (ap length (p .1)))
-
-add-there : (l : List ℕ) (k : ℕ) → member eqb k l ≡ true → addAll eqb l (k ∷ []) ≡ l
-add-there l k e = ap (λ b. elim b as (λ (c : Bool). List ℕ) [ true ↦ l | false ↦ l ++ (k ∷ []) ]) e
-
-add-new : (l : List ℕ) (k : ℕ) → member eqb k l ≡ false → addAll eqb l (k ∷ []) ≡ l ++ (k ∷ [])
-add-new l k e = ap (λ b. elim b as (λ (c : Bool). List ℕ) [ true ↦ l | false ↦ l ++ (k ∷ []) ]) e
 
 -- one key that is there, that is new, or that has no room
 module _ (a : List ℕ) (n k : ℕ) (room : length a ≡ 256) (few : n ≤ 256) where
-  there : position eqb k (take n a) < n → member eqb k (take n a) ≡ true
-  there h = sym (position-member k (take n a)) ∙ lt-ltb (position eqb k (take n a)) (length (take n a)) (omega (arith, length-take-le n a (omega arith)))
+  long : length (take n a) ≡ n
+  long = length-take-le n a (omega arith)
 
-  missing : n ≤ position eqb k (take n a) → member eqb k (take n a) ≡ false
-  missing h = sym (position-member k (take n a)) ∙ le-ltb (position eqb k (take n a)) (length (take n a)) (omega (arith, length-take-le n a (omega arith)))
+  missing : n ≤ position eqb k (take n a) → ¬ List·Memᴰ k (take n a)
+  missing h m = let z : ⊥ = omega (arith, position-bound decides-number k (take n a) m, long) in z
 
   pub added-there : position eqb k (take n a) < n → Added (take n a) (k ∷ []) a n
-  added-there h = record { room = room; bound = omega arith; fits = λ f. sym (add-there (take n a) k (there h)); over = λ m. let z : ⊥ = omega arith in absurd z }
+  added-there h = record { room = room; bound = omega arith; fits = λ f. sym (add-known decides-number k (take n a) (position-member decides-number k (take n a) (omega (arith, long)))); over = λ m. let z : ⊥ = omega arith in absurd z }
 
   pub added-new : n < 256 → n ≤ position eqb k (take n a) → Added (take n a) (k ∷ []) (set a n k) (n + 1)
   added-new l h =
       record {
         room = length-set a n k ∙ room;
         bound = omega arith;
-        fits = λ f. ap (λ m. take m (set a n k)) (add-one n) ∙ take-suc-set a n k (omega arith) ∙ sym (add-new (take n a) k (missing h));
+        fits = λ f. ap (λ m. take m (set a n k)) (add-one n) ∙ take-suc-set a n k (omega arith) ∙ sym (add-new decides-number k (take n a) (missing h));
         over = λ m. let z : ⊥ = omega arith in absurd z;
       }
 
@@ -60,7 +43,7 @@ module _ (a : List ℕ) (n k : ℕ) (room : length a ≡ 256) (few : n ≤ 256) 
         room = room;
         bound = omega arith;
         fits = λ f. let z : ⊥ = omega arith in absurd z;
-        over = λ m. omega (arith, ap length (add-new (take n a) k (missing h)), length-append (take n a) (k ∷ []), length-take-le n a (omega arith));
+        over = λ m. omega (arith, ap length (add-new decides-number k (take n a) (missing h)), length-append (take n a) (k ∷ []), long);
       }
 
 pub added-none : (a : List ℕ) (n : ℕ) → length a ≡ 256 → n ≤ 256 → Added (take n a) [] a n
@@ -69,18 +52,18 @@ added-none a n room few = record { room = room; bound = omega arith; fits = λ f
 -- some keys and then others
 pub added-more : {l xs ys zs b c : List ℕ} {r s : ℕ} → zs ≡ xs ++ ys → Added l xs b r → r ≤ 256 → Added (take r b) ys c s → Added l zs c s
 added-more {l} {xs} {ys} e u few v =
-    let same = ap (λ k. addAll eqb k ys) (u .fits few) ∙ sym (addAll-append eqb l xs ys) ∙ ap (addAll eqb l) (sym e) in
+    let same = ap (λ k. addAll eqb k ys) (u .fits few) ∙ sym (addAll-append decides-number l xs ys) ∙ ap (addAll eqb l) (sym e) in
     record { room = v .room; bound = v .bound; fits = λ f. v .fits f ∙ same; over = λ m. omega (arith, ap length same, v .over m) }
 
 -- there is no room for the first of some keys
 pub added-stop : {l xs zs b : List ℕ} {r : ℕ} → Added l xs b r → 256 < r → IsPrefix xs zs → Added l zs b r
 added-stop {l} {xs} {zs} u many p =
-    let all = sym (addAll-append eqb l xs (p .0)) ∙ ap (addAll eqb l) (p .1) in
+    let all = sym (addAll-append decides-number l xs (p .0)) ∙ ap (addAll eqb l) (p .1) in
     record {
       room = u .room;
       bound = u .bound;
       fits = λ f. let z : ⊥ = omega arith in absurd z;
-      over = λ m. omega (arith, u .over m, addAll-longer decides-number (addAll eqb l xs) (p .0), ap length all);
+      over = λ m. omega (arith, u .over m, prefix-length (addAll eqb l xs) (addAll-keeps decides-number (p .0) (addAll eqb l xs)), ap length all);
     }
 
 -- the ordering without its last column

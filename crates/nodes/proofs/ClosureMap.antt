@@ -1,15 +1,14 @@
 -- A closure under another name of each thing: where f tells the things found apart, the closure of the names is the names of the closure.
 use Prim.Native.Nat.{ℕ, zero, suc}
-use mathlib.Core.Path.{_≡_, refl, sym, _∙_, ap}
+use mathlib.Core.Path.{_≡_, refl, _∙_, ap}
 use mathlib.Core.Bool.{Bool, true, false}
-use mathlib.Core.List.{List, [], _∷_, _++_, map, map-append, List·Memᴰ, List·Memᴰ·head, List·Memᴰ·tail, List·Memᴰ·not-nil}
+use mathlib.Core.List.{List, [], _∷_, map, List·Memᴰ, List·Memᴰ·head, List·Memᴰ·tail, List·Memᴰ·not-nil}
 use lib.Dec.{ltb}
 use lib.ListN.{length, drop, length-map}
-use Rattle.theory.specs.Tests.{Decides, member}
+use Rattle.theory.specs.Tests.{Decides}
 use Rattle.theory.specs.Closure.{add, addAll, walk, closure}
-use Rattle.theory.proofs.Reflect.{says-as, says-one}
 use Rattle.theory.proofs.ListLaws.{member-drop}
-use Rattle.theory.proofs.RowLaws.{all-cons, all-append}
+use Rattle.theory.proofs.PositionLaws.{add-all, add-map}
 use Rattle.theory.proofs.WalkLaws.{turn}
 
 drop-map : {A B : Type 0} (f : A → B) (i : ℕ) (l : List A) → drop i (map f l) ≡ map f (drop i l)
@@ -22,31 +21,12 @@ module _ {A B : Type 0} {same : A → A → Bool} {same′ : B → B → Bool} (
   abbrev All : List A → Type 0
   All l = (x : A) → List·Memᴰ x l → P x
 
-  alike : (x y : A) → P x → P y → same′ (f x) (f y) ≡ same x y
-  alike x y p q = says-one (says-as (apart x y p q) (ap f) (dec′ (f x) (f y))) (dec x y)
-
-  member-map : (x : A) (l : List A) → P x → All l → member same′ (f x) (map f l) ≡ member same x l
-  member-map x [] p all = refl
-  member-map x (y ∷ l) p all =
-      rw (alike x y p (all y (List·Memᴰ·head refl)))
-      (ap (λ b. elim (same x y) as (λ (c : Bool). Bool) [ true ↦ true | false ↦ b ]) (member-map x l p (λ z m. all z (List·Memᴰ·tail m))))
-
-  add-map : (l : List A) (x : A) → P x → All l → (add same′ (map f l) (f x) ≡ map f (add same l x)) × All (add same l x)
-  add-map l x p all =
-      let t = go (member same x l) in
-      (ap (λ b. elim b as (λ (c : Bool). List B) [ true ↦ map f l | false ↦ map f l ++ (f x ∷ []) ]) (member-map x l p all) ∙ t .0, t .1)
-    where
-      go : (b : Bool) → let k = elim b as (λ (c : Bool). List A) [ true ↦ l | false ↦ l ++ (x ∷ []) ] in
-          ((elim b as (λ (c : Bool). List B) [ true ↦ map f l | false ↦ map f l ++ (f x ∷ []) ]) ≡ map f k) × All k
-      go true = (refl, all)
-      go false = (sym (map-append f l (x ∷ [])), all-append l all (all-cons p (λ y m. absurd (List·Memᴰ·not-nil m))))
-
   addAll-map : (xs l : List A) → All xs → All l → (addAll same′ (map f l) (map f xs) ≡ map f (addAll same l xs)) × All (addAll same l xs)
   addAll-map [] l ps all = (refl, all)
   addAll-map (x ∷ xs) l ps all =
-      let t = add-map l x (ps x (List·Memᴰ·head refl)) all in
-      let u = addAll-map xs (add same l x) (λ y m. ps y (List·Memᴰ·tail m)) (t .1) in
-      (ap (λ k. addAll same′ k (map f xs)) (t .0) ∙ u .0, u .1)
+      let p = ps x (List·Memᴰ·head refl) in
+      let u = addAll-map xs (add same l x) (λ y m. ps y (List·Memᴰ·tail m)) (add-all dec x l all p) in
+      (ap (λ k. addAll same′ k (map f xs)) (add-map dec dec′ f x l (λ y m. apart x y p (all y m))) ∙ u .0, u .1)
 
   module _ (out : A → List A) (out′ : B → List B) (named : (x : A) → P x → out′ (f x) ≡ map f (out x)) (on : (x : A) → P x → All (out x)) (cap : ℕ) where
     walk-map : (fuel : ℕ) (l : List A) (i : ℕ) → All l → walk same′ out′ cap fuel (map f l) i ≡ map f (walk same out cap fuel l i)

@@ -2,17 +2,20 @@
 use Prim.Native.Nat.{ℕ, _<_}
 use native.Mathlib.Nat.{le-trans}
 use native.Mathlib.Omega.{arith}
-use mathlib.Core.Path.{_≡_, refl, sym, _∙_, ap, subst}
-use mathlib.Core.List.{List, map, map-map, List·Memᴰ, List·Memᴰ·head, List·Memᴰ·tail, Memᴰ·append-left, Memᴰ·of-map}
+use mathlib.Core.Path.{_≡_, sym, _∙_, ap, subst}
+use mathlib.Core.List.{List, map, map-map, List·Memᴰ, Memᴰ·append-left, Memᴰ·of-map, flatten}
 use lib.Dec.{eqb}
 use lib.ListN.{length, length-map, length-take}
 use Rattle.theory.specs.Limits.{maxNodes}
-use Rattle.theory.specs.Orders.{Order, Rule, fix, equal, Dependency, allRules, sameOrder}
+use Rattle.theory.specs.Orders.{Order, Rule, Dependency, interesting, allRules, sameOrder}
 use Rattle.theory.specs.Closure.{closure}
-use Rattle.theory.specs.Construction.{Wanted, asked, settles, equals, equals′, columnsOf, isWanted, keep, kept, steps, keptSteps, nodes}
+use Rattle.theory.specs.Construction.{Wanted, columnsOf, isWanted, keep, kept, steps, keptSteps, nodes}
 use Rattle.theory.specs.Query.{Bytes, columnCount, readQuery}
 use Rattle.theory.proofs.Reflect.{decides-number, decides-order, says-true}
-use Rattle.theory.proofs.WantedLaws.{says-wanted, kept-interesting}
+use Rattle.theory.proofs.ListLaws.{member-flatten-map}
+use Rattle.theory.proofs.RowLaws.{all-append, all-flatten}
+use Rattle.theory.proofs.ClosureLaws.{closure-all}
+use Rattle.theory.proofs.WantedLaws.{says-wanted, wanted-named, kept-interesting}
 use Rattle.orders.specs.Orders.{inMask}
 use Rattle.query.specs.Passed.{Passed}
 use Rattle.query.proofs.PassedLaws.{query-passed}
@@ -31,10 +34,9 @@ module _ (b : Bytes) (p : Passed b) where
       dependency-columns b p (t .0) (t .1) .1 .below c (subst (λ s. List·Memᴰ c (columnsOf s)) (sym (t .2)) k)
 
   wanted-below : {c : ℕ} → Wanted (readQuery b) c → c < columnCount b
-  wanted-below {c} (asked {o} m k) = order-columns b p o m .1 .below c k
-  wanted-below {c} (settles {r} {l} m k w) = rule-below (fix l r) m c (List·Memᴰ·tail k)
-  wanted-below (equals {a} {b = d} m w) = rule-below (equal a d) m a (List·Memᴰ·head refl)
-  wanted-below (equals′ {a} {b = d} m w) = rule-below (equal a d) m d (List·Memᴰ·tail (List·Memᴰ·head refl))
+  wanted-below {c} w =
+      all-append (flatten (interesting (readQuery b))) (all-flatten (interesting (readQuery b)) (λ o m d k. order-columns b p o m .1 .below d k))
+      (λ d k. let t = member-flatten-map columnsOf (allRules (readQuery b)) k in rule-below (t .0) (t .1) d (t .2)) c (wanted-named (readQuery b) w)
 
 module _ (b : Bytes) (w n : ℕ) (p : Prepared b w n) where
   -- what the code keeps is what the construction keeps
@@ -78,6 +80,10 @@ module _ (b : Bytes) (w n : ℕ) (p : Prepared b w n) where
   pub node-keys : closure eqb (keySteps w n (allRules (readQuery b))) maxNodes (map keyOf (readQuery b .produced)) ≡ map keyOf (nodes (readQuery b))
   unfolding nodes
   node-keys = key-closure (allRules (readQuery b)) maxNodes (readQuery b .produced) produced-small
+
+  pub nodes-small : (o : Order) → List·Memᴰ o (nodes (readQuery b)) → Small o
+  unfolding nodes
+  nodes-small = closure-all decides-order (keptSteps (readQuery b) (allRules (readQuery b))) maxNodes (readQuery b .produced) Small produced-small (λ x y s m. steps-small (allRules (readQuery b)) x y m)
 
 -- the keys that are listed are as many as the nodes
 pub nodes-count : {b : Bytes} {array : List ℕ} {n : ℕ} → NodesAre b array n → length (nodes (readQuery b)) ≡ n

@@ -15,7 +15,7 @@ use Rattle.theory.specs.Query.{Bytes, readQuery}
 use Rattle.theory.proofs.Reflect.{decides-number}
 use Rattle.derivation.specs.Keys.{keyOf, keySteps}
 use Rattle.nodes.specs.Nodes.{Added, Prepared, NodesFound}
-use Rattle.nodes.proofs.WalkLaws.{Walked, walked-none, walked-more, walked-all, walked-longer, start-longer}
+use Rattle.theory.proofs.WalkLaws.{Walked, walked-none, walked-more, walked-all, walked-longer, start-longer}
 use Rattle.nodes.proofs.NodeKeys.{node-keys}
 
 -- the produced orders, and what a key leads to

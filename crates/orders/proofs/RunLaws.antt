@@ -1,32 +1,21 @@
--- A walk from the front of an order, up to the first column that fails a test or the n-th: its kept part. A search is such a walk too.
-use Prim.Native.Nat.{ℕ, zero, suc, _+_, _-_, _<_, _≤_, min}
+-- A walk from the front of an order, up to the first column that fails a test or the n-th: its kept part.
+use Prim.Native.Nat.{ℕ, suc, _+_, _-_, _<_, _≤_, min}
 use native.Mathlib.Nat.{zero-add, sub-zero}
 use native.Mathlib.Numerals.{add-one}
 use native.Mathlib.Omega.{arith}
-use mathlib.Core.Path.{_≡_, refl, sym, _∙_, ap}
-use mathlib.Core.Bool.{Bool, true, false, not}
-use mathlib.Core.List.{List, [], _∷_}
-use lib.Dec.{eqb, ltb, leb·zero, leb·suc-suc}
+use mathlib.Core.Path.{_≡_, sym, _∙_, ap}
+use mathlib.Core.Bool.{Bool, true, false}
+use mathlib.Core.List.{List}
 use lib.ListN.{length, take, drop, getD, drop-of-length-le}
-use lib.Seq.{drop-cons}
-use borrow.Author.Tests.{eq-eqb, ne-eqb}
-use Rattle.theory.specs.Tests.{Says, holds, fails, member, position}
-use Rattle.theory.specs.Construction.{keep, keepFirst}
+use lib.Seq.{drop-cons, take-append-seam}
+use Rattle.theory.specs.Tests.{Says, holds, fails}
+use Rattle.theory.specs.Construction.{keep}
 use Rattle.theory.proofs.Reflect.{says-leb}
+use Rattle.theory.proofs.KeptLaws.{keep-prefix, keep-nil}
 
 -- the kept part is a beginning
 pub keep-front : (w : ℕ → Bool) (n : ℕ) (l : List ℕ) → take (length (keep w n l)) l ≡ keep w n l
-keep-front w zero l = refl
-keep-front w (suc n) [] = refl
-keep-front w (suc n) (x ∷ l) = go (w x) (keep-front w n l)
-  where
-    go : (b : Bool) → take (length (keep w n l)) l ≡ keep w n l → take (length (keepFirst b x (keep w n l))) (x ∷ l) ≡ keepFirst b x (keep w n l)
-    go true e = ap (λ r. x ∷ r) e
-    go false e = refl
-
-keep-none : (w : ℕ → Bool) (n : ℕ) → keep w n [] ≡ []
-keep-none w zero = refl
-keep-none w (suc n) = refl
+keep-front w n l = let p = keep-prefix w n l in ap (take (length (keep w n l))) (sym (p .1)) ∙ take-append-seam (keep w n l) (p .0)
 
 -- the first i columns are kept, and what is kept behind them is still to be met
 pub record Met (w : ℕ → Bool) (n : ℕ) (l : List ℕ) (i : ℕ) : Type 0 where
@@ -51,44 +40,10 @@ module _ (w : ℕ → Bool) (n : ℕ) (l : List ℕ) where
       where
         go : {b : Bool} → Says (n ≤ i) b → length (keep w (n - i) (drop i l)) ≡ 0
         go (holds g) = let e : n - i ≡ 0 = omega arith in rw e
-        go (fails g) = rw (drop-of-length-le l {i = i} (omega arith), keep-none)
+        go (fails g) = rw (drop-of-length-le l {i = i} (omega arith), keep-nil)
 
     pub met-stop : i < min n (length l) → w (getD l i 0) ≡ false → i ≡ length (keep w n l)
     met-stop h e =
         let less : n - i ≡ suc (n - (i + 1)) = omega arith in
         let none : length (keep w (n - i) (drop i l)) ≡ 0 = rw (less, drop-cons l i 0 (omega arith), e) in
         omega (arith, m .rest, none)
-
--- the place of c is the length of the beginning without it
-pub position-run : (c : ℕ) (l : List ℕ) → length (keep (λ x. not (eqb c x)) (length l) l) ≡ position eqb c l
-position-run c [] = refl
-position-run c (x ∷ l) = go (eqb c x) (position-run c l)
-  where
-    go : (b : Bool) → length (keep (λ y. not (eqb c y)) (length l) l) ≡ position eqb c l
-        → length (keepFirst (not b) x (keep (λ y. not (eqb c y)) (length l) l)) ≡ elim b [ true ↦ zero | false ↦ suc (position eqb c l) ]
-    go true e = refl
-    go false e = ap suc e
-
--- c was not met among the first i columns
-abbrev pub Unmet : ℕ → List ℕ → ℕ → Type 0
-Unmet c l i = Met (λ x. not (eqb c x)) (length l) l i
-
-module _ (c : ℕ) (l : List ℕ) {i : ℕ} (m : Unmet c l i) where
-  pub unmet-more : i < length l → (getD l i 0 ≡ c → ⊥) → Unmet c l (i + 1)
-  unmet-more h n = met-more _ _ l m (omega arith) (ap not (ne-eqb c (getD l i 0) (λ e. n (sym e))))
-
-  pub unmet-end : length l ≤ i → i ≡ position eqb c l
-  unmet-end h = met-end _ _ l m (omega arith) ∙ position-run c l
-
-  pub unmet-found : i < length l → getD l i 0 ≡ c → i ≡ position eqb c l
-  unmet-found h e = met-stop _ _ l m (omega arith) (ap not (eq-eqb c (getD l i 0) (sym e))) ∙ position-run c l
-
--- c occurs where its place is in the list
-pub position-member : (c : ℕ) (l : List ℕ) → ltb (position eqb c l) (length l) ≡ member eqb c l
-position-member c [] = refl
-position-member c (x ∷ l) = go (eqb c x) (position-member c l)
-  where
-    go : (b : Bool) → ltb (position eqb c l) (length l) ≡ member eqb c l
-        → ltb (elim b [ true ↦ zero | false ↦ suc (position eqb c l) ]) (suc (length l)) ≡ elim b [ true ↦ true | false ↦ member eqb c l ]
-    go true e = rw leb·suc-suc (leb·zero (length l))
-    go false e = rw leb·suc-suc e

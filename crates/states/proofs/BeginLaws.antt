@@ -4,16 +4,16 @@ use native.Mathlib.Nat.{mul-le-mul}
 use native.Mathlib.Numerals.{add-one}
 use native.Mathlib.Omega.{arith}
 use mathlib.Core.Path.{_≡_, refl, sym, _∙_, ap, subst}
-use mathlib.Core.Bool.{Bool}
 use mathlib.Core.List.{List, [], _∷_, map, List·Memᴰ·head, List·Memᴰ·not-nil, flatten}
 use lib.ListN.{length, take, drop, getD, set, length-take, length-drop}
 use lib.Seq.{length-take-le, drop-cons, drop-length, getD-take, getD-drop, getD-set-same, getD-set-other, ext-getD}
+use borrow.Author.Count.{below-more}
 use Rattle.theory.specs.Limits.{maxStates}
-use Rattle.theory.specs.Tests.{Says, holds, fails, upFrom}
+use Rattle.theory.specs.Tests.{upFrom}
 use Rattle.theory.specs.Closure.{add, addAll}
 use Rattle.theory.specs.Construction.{Marks, sameMarks, startState}
-use Rattle.theory.specs.Query.{Bytes, byteAt, setCount, readQuery}
-use Rattle.theory.proofs.Reflect.{decides-marks, says-eqb}
+use Rattle.theory.specs.Query.{Bytes, setCount, readQuery}
+use Rattle.theory.proofs.Reflect.{decides-marks}
 use Rattle.theory.proofs.ConstructionLaws.{states-walk}
 use Rattle.theory.proofs.ClosureLaws.{addAll-has}
 use Rattle.theory.specs.Scratch.{successorsPart}
@@ -21,10 +21,11 @@ use Rattle.closure.specs.Work.{packMarks, nodesOf, statesOf, contentsOf, States
 use Rattle.states.specs.States.{Joined, StartsIn, Started, Visited, walkFrom, taken}
 use Rattle.theory.proofs.WalkLaws.{walk-end}
 use Rattle.theory.proofs.QueryLaws.{set-count}
-use Rattle.states.proofs.WalkLaws.{prefix-position}
+use Rattle.theory.proofs.ListLaws.{prefix-length}
+use Rattle.theory.proofs.PositionLaws.{position-grows}
 use Rattle.states.proofs.JoinedLaws.{listed-count}
 use Rattle.states.proofs.ContentLaws.{starts-at, starts-count, successors-count}
-use Rattle.states.proofs.VisitLaws.{ahead-prefix, prefix-length}
+use Rattle.states.proofs.VisitLaws.{ahead-prefix}
 
 pub started-none : (b work starts : Bytes) → Started b work starts 0 0
 started-none b work starts =
@@ -55,12 +56,13 @@ module _ {b work starts : Bytes} {count p number next : ℕ} {after : Bytes} (s 
   pub started-more : p < length starts → next ≤ 128 → Started b after (set starts p number) next (p + 1)
   started-more room few =
       let written : number ≡ getD (contentsOf b .starts) p 0 =
-      j .place few ∙ sym (prefix-position decides-marks grown (ahead-prefix b grown rest 129 0 on) ms (addAll-has decides-marks (ms ∷ []) (s .states) ms (List·Memᴰ·head refl))) ∙ sym (starts-at b p h) in
-      record { states = grown; listed = j .fits few; ahead = on; stored = λ k l. go k l (says-eqb k p) written }
-    where
-      go : (k : ℕ) → k < p + 1 → {t : Bool} → Says (k ≡ p) t → number ≡ getD (contentsOf b .starts) p 0 → byteAt (set starts p number) k ≡ getD (contentsOf b .starts) k 0
-      go k l (holds e) w = rw e (getD-set-same starts p number 0 room ∙ w)
-      go k l (fails n) w = getD-set-other starts p k number 0 n ∙ s .stored k (omega arith)
+      j .place few ∙ sym (position-grows decides-marks ms grown (ahead-prefix b grown rest 129 0 on) (addAll-has decides-marks (ms ∷ []) (s .states) ms (List·Memᴰ·head refl))) ∙ sym (starts-at b p h) in
+      record {
+        states = grown;
+        listed = j .fits few;
+        ahead = on;
+        stored = below-more _ p (λ k l. getD-set-other starts p k number 0 (omega arith) ∙ s .stored k l) (getD-set-same starts p number 0 room ∙ written);
+      }
 
 -- all starts are numbered: the walk begins
 pub started-all : {b work starts : Bytes} {count : ℕ} → Started b work starts count (length (readQuery b .produced)) → Visited b work count 0

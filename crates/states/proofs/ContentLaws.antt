@@ -1,58 +1,34 @@
 -- The starts and the successors of a query's table, entry by entry.
 use Prim.Native.Nat.{ℕ, _+_, _*_, _<_}
-use native.Mathlib.Nat.{zero-add}
-use mathlib.Core.Path.{_≡_, refl, sym, _∙_, ap, subst}
-use mathlib.Core.List.{List, [], map, append-nil, List·Memᴰ, Memᴰ·of-map, flatten}
-use lib.ListN.{length, take, drop, getD, length-map}
-use lib.Seq.{getD-take, getD-drop}
-use Rattle.theory.specs.Tests.{position, upFrom}
-use Rattle.theory.specs.Construction.{Marks, sameMarks, startState}
+use mathlib.Core.Path.{_≡_, _∙_, ap}
+use mathlib.Core.List.{List, [], List·Memᴰ, flatten}
+use lib.ListN.{length, getD}
+use Rattle.theory.specs.Tests.{position}
+use Rattle.theory.specs.Construction.{sameMarks, startState, sizesOf, construction}
 use Rattle.theory.specs.Query.{Bytes, setCount, readQuery}
-use Rattle.theory.specs.Table.{tableOf}
-use Rattle.theory.proofs.ListLaws.{upFrom-length, upFrom-getD}
-use Rattle.theory.proofs.RangeLaws.{entry-at, entry-count}
-use Rattle.theory.proofs.RowLaws.{getD-map, flatten-length, row-of-rows}
+use Rattle.theory.proofs.RowLaws.{flatten-length, entry-of-flatten}
 use Rattle.theory.proofs.QueryLaws.{set-count}
+use Rattle.theory.proofs.MachineTable as table
 use Rattle.closure.specs.Work.{nodesOf, statesOf, contentsOf}
 use Rattle.states.specs.States.{taken}
 
 module _ (b : Bytes) where
-  numberOf : Marks → ℕ
-  numberOf ms = position sameMarks ms (statesOf b)
+  wide : (r : List ℕ) → List·Memᴰ r (contentsOf b .successors) → length r ≡ setCount b
+  wide r m = table.row-width (construction (readQuery b) (nodesOf b)) (sizesOf (readQuery b)) (statesOf b) r m ∙ set-count b
 
-  rowOf : Marks → List ℕ
-  rowOf ms = map (λ s. numberOf (taken b ms s)) (upFrom 0 (readQuery b .sets))
-
-  wide : (r : List ℕ) → List·Memᴰ r (map rowOf (statesOf b)) → length r ≡ setCount b
-  unfolding rowOf
-  wide r m =
-      let t = Memᴰ·of-map rowOf (statesOf b) m in
-      ap length (sym (t .2)) ∙ length-map (upFrom 0 (readQuery b .sets)) _ ∙ upFrom-length 0 (readQuery b .sets) ∙ set-count b
+  rows : length (contentsOf b .successors) ≡ length (statesOf b)
+  rows = table.rows-count (construction (readQuery b) (nodesOf b)) (sizesOf (readQuery b)) (statesOf b)
 
   pub starts-at : (p : ℕ) → p < length (readQuery b .produced) → getD (contentsOf b .starts) p 0 ≡ position sameMarks (startState (nodesOf b) (getD (readQuery b .produced) p [])) (statesOf b)
-  unfolding tableOf
-  starts-at p h =
-      entry-at (λ k. position sameMarks (startState (nodesOf b) (getD (readQuery b .produced) k [])) (statesOf b)) 0 (length (readQuery b .produced)) p 0 h
-      ∙ ap (λ k. position sameMarks (startState (nodesOf b) (getD (readQuery b .produced) k [])) (statesOf b)) (zero-add p)
+  starts-at = table.start-number (construction (readQuery b) (nodesOf b)) (sizesOf (readQuery b)) (statesOf b)
 
   pub starts-count : length (contentsOf b .starts) ≡ length (readQuery b .produced)
-  unfolding tableOf
-  starts-count = entry-count (λ k. position sameMarks (startState (nodesOf b) (getD (readQuery b .produced) k [])) (statesOf b)) 0 (length (readQuery b .produced))
+  starts-count = table.starts-count (construction (readQuery b) (nodesOf b)) (sizesOf (readQuery b)) (statesOf b)
 
   pub successors-count : length (flatten (contentsOf b .successors)) ≡ length (statesOf b) * setCount b
-  unfolding tableOf rowOf numberOf
-  successors-count = flatten-length (setCount b) (map rowOf (statesOf b)) wide ∙ ap (λ n. n * setCount b) (length-map (statesOf b) rowOf)
+  successors-count = flatten-length (setCount b) (contentsOf b .successors) wide ∙ ap (λ n. n * setCount b) rows
 
   pub successors-at : (i s : ℕ) → i < length (statesOf b) → s < setCount b → getD (flatten (contentsOf b .successors)) (i * setCount b + s) 0 ≡ position sameMarks (taken b (getD (statesOf b) i []) s) (statesOf b)
-  unfolding tableOf rowOf numberOf
   successors-at i s h l =
-      let rows = map rowOf (statesOf b) in
-      let w = setCount b in
-      let row : take w (drop (0 + i * w) (flatten rows)) ≡ getD rows i [] =
-      ap (λ k. take w (drop (0 + i * w) k)) (sym (append-nil (flatten rows))) ∙ row-of-rows w 0 [] rows [] i wide refl (subst (λ n. i < n) (sym (length-map (statesOf b) rowOf)) h) in
-      ap (λ k. getD (flatten rows) (k + s) 0) (sym (zero-add (i * w)))
-      ∙ sym (getD-drop (0 + i * w) (flatten rows) s 0)
-      ∙ sym (getD-take w (drop (0 + i * w) (flatten rows)) s 0 l)
-      ∙ ap (λ r. getD r s 0) (row ∙ getD-map rowOf (statesOf b) i [] [] h)
-      ∙ getD-map (λ n. numberOf (taken b (getD (statesOf b) i []) n)) (upFrom 0 (readQuery b .sets)) s 0 0 (rw upFrom-length (rw set-count l))
-      ∙ ap (λ n. numberOf (taken b (getD (statesOf b) i []) n)) (upFrom-getD 0 (readQuery b .sets) s 0 (rw set-count l) ∙ zero-add s)
+      entry-of-flatten (setCount b) (contentsOf b .successors) i s wide (rw rows h) l
+      ∙ table.next-number (construction (readQuery b) (nodesOf b)) (sizesOf (readQuery b)) (statesOf b) i s [] h (rw set-count l)

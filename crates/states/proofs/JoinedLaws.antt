@@ -15,7 +15,7 @@ use Rattle.theory.proofs.RowLaws.{getD-map}
 use Rattle.closure.specs.Work.{packMarks, nodesOf, stateRows}
 use Rattle.states.specs.States.{sameRow, Placed, Listed, Joined}
 use Rattle.closure.proofs.MarkLaws.{pack-injective}
-use Rattle.states.proofs.PositionLaws.{position-map, add-map, add-all}
+use Rattle.theory.proofs.PositionLaws.{position-map, add-map, add-all}
 use Rattle.states.proofs.StateRows.{rows-count, rows-at}
 
 -- every state has a mark for each node

@@ -12,8 +12,7 @@ use Rattle.theory.proofs.Reflect.{decides-order}
 use Rattle.theory.specs.Scratch.{successorsPart}
 use Rattle.closure.specs.Work.{stateRows}
 use Rattle.states.specs.States.{sameRow, Placed}
-use Rattle.theory.proofs.PositionLaws.{position-bound}
-use Rattle.states.proofs.PositionLaws.{position-member, add-known, add-new, position-new}
+use Rattle.theory.proofs.PositionLaws.{position-bound, position-member, add-known, add-new, position-new}
 use Rattle.states.proofs.StateRows.{rows-count, rows-kept, rows-more}
 
 module _ (work m : Bytes) (q n : ℕ) (found : n ≡ position sameRow m (stateRows q work)) where

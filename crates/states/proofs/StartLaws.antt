@@ -3,36 +3,33 @@ use Prim.Native.Nat.{ℕ, zero, suc, _+_, _*_, _<_}
 use native.Mathlib.Nat.{zero-add}
 use native.Mathlib.Numerals.{add-one}
 use native.Mathlib.Omega.{arith}
-use mathlib.Core.Path.{_≡_, refl, sym, _∙_, ap, ap₂, subst}
+use mathlib.Core.Path.{_≡_, refl, sym, _∙_, ap, ap₂}
 use mathlib.Core.Bool.{Bool, true, false}
 use mathlib.Core.Logic.{⊎-elim}
 use mathlib.Core.List.{List, [], _∷_, _++_, map, map-map, List·Memᴰ, List·Memᴰ·head, List·Memᴰ·not-nil, List·Memᴰ·cases-cons, List·Memᴰ·append-cases, List·Memᴰ·eq-of-singleton, Memᴰ·append-left, Memᴰ·append-right, Memᴰ·cast}
 use lib.Dec.{eqb}
 use lib.ListN.{length, take, drop, getD, set, replicate, length-map, length-replicate, getD-replicate, take-append-drop}
 use lib.Seq.{ext-getD}
-use Rattle.theory.specs.Limits.{maxNodes}
 use Rattle.theory.specs.Tests.{Says, holds, fails, Distinct, also, member, position, upFrom}
-use Rattle.theory.specs.Orders.{Order, sameOrder, allRules}
-use Rattle.theory.specs.Construction.{marks, prefixes, startState, keptSteps, nodes}
+use Rattle.theory.specs.Orders.{Order, sameOrder}
+use Rattle.theory.specs.Construction.{marks, prefixes, startState}
 use Rattle.theory.specs.Query.{Bytes, producedCount, orderAt, readQuery}
 use Rattle.theory.specs.Table.{number}
 use Rattle.theory.proofs.Reflect.{says-member, says-as, says-one, true-says, decides-order, decides-number}
 use Rattle.theory.proofs.ListLaws.{member-getD}
-use Rattle.theory.proofs.ClosureLaws.{closure-all}
-use Rattle.theory.proofs.NodeLaws.{member-kept-steps, nodes-exactly, nodes-distinct}
+use Rattle.theory.proofs.NodeLaws.{nodes-exactly, nodes-distinct}
 use Rattle.theory.proofs.StateLaws.{marks-canonical}
 use Rattle.query.proofs.ReadLaws.{produced-at}
-use Rattle.derivation.specs.Keys.{keyOf, Small}
+use Rattle.derivation.specs.Keys.{keyOf}
 use Rattle.derivation.proofs.KeyLaws.{key-injective}
-use Rattle.nodes.proofs.NodeKeys.{kept-small, produced-small, nodes-count}
+use Rattle.nodes.proofs.NodeKeys.{nodes-small, nodes-count}
 use Rattle.closure.specs.Work.{packMarks, Ready, nodesOf}
 use Rattle.closure.specs.Marks.{withMark}
 use Rattle.states.specs.States.{Keyed}
 use Rattle.closure.proofs.MarkLaws.{pack-length, pack-byte, pack-mark}
-use Rattle.theory.proofs.PositionLaws.{position-bound}
+use Rattle.theory.proofs.RangeLaws.{map-more}
 use Rattle.theory.proofs.QueryLaws.{produced-count}
-use Rattle.states.proofs.PositionLaws.{position-map}
-use Rattle.states.proofs.StateRows.{upFrom-snoc}
+use Rattle.theory.proofs.PositionLaws.{position-bound, position-map}
 
 -- the first j prefixes of an order, by their lengths
 abbrev pub shortest : ℕ → Order → List Order
@@ -48,7 +45,7 @@ all-prefixes (c ∷ o) =
     ap (λ l. [] ∷ l) (from-next (λ k. take k (c ∷ o)) 0 (suc (length o)) ∙ sym (map-map (λ r. c ∷ r) (λ k. take k o) (upFrom 0 (suc (length o)))) ∙ ap (map (λ r. c ∷ r)) (all-prefixes o))
 
 prefixes-more : (j : ℕ) (o : Order) → shortest (j + 1) o ≡ shortest j o ++ (take j o ∷ [])
-prefixes-more j o = rw add-one (upFrom-snoc (λ k. take k o) 0 j ∙ ap (λ k. shortest j o ++ (take k o ∷ [])) (zero-add j))
+prefixes-more j o = map-more (λ k. take k o) 0 j j (sym (zero-add j))
 
 -- one more ordering, which is a node: its mark is set
 module _ (os : List Order) (x : Order) where
@@ -87,15 +84,7 @@ pack-none ns =
 
 -- each node has a key of its own
 pub keyed : {b : Bytes} {array : List ℕ} {n wanted longest : ℕ} → Ready b array n wanted longest → Keyed b array n
-unfolding nodes
-keyed {b} {wanted} {longest} r =
-    let q = readQuery b in
-    record {
-      checked = r .prepared .checked;
-      listed = r .listed;
-      small = closure-all decides-order (keptSteps q (allRules q)) maxNodes (q .produced) Small (produced-small b wanted longest (r .prepared))
-          (λ x y s m. let t = member-kept-steps q (allRules q) x y m in subst Small (t .2) (kept-small b wanted longest (r .prepared) (t .0)));
-    }
+keyed {b} {wanted} {longest} r = record { checked = r .prepared .checked; listed = r .listed; small = nodes-small b wanted longest (r .prepared) }
 
 -- a prefix of a produced order is a node, found by its key
 module _ {b : Bytes} {array : List ℕ} {n : ℕ} (k : Keyed b array n) (p : ℕ) (h : p < producedCount b) (j : ℕ) where

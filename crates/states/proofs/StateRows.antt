@@ -1,20 +1,19 @@
 -- The rows of the numbered states: read byte by byte, kept where their bytes are kept, and one more.
-use Prim.Native.Nat.{ℕ, zero, suc, _+_, _*_, _<_, _≤_}
-use native.Mathlib.Nat.{zero-add, add-zero, suc-add, add-suc}
-use native.Mathlib.Numerals.{add-one}
+use Prim.Native.Nat.{ℕ, _+_, _*_, _<_, _≤_}
+use native.Mathlib.Nat.{zero-add}
 use native.Mathlib.Omega.{arith}
 use mathlib.Core.Path.{_≡_, sym, _∙_, ap}
-use mathlib.Core.List.{[], _∷_, _++_, map}
+use mathlib.Core.List.{[], _∷_, _++_}
 use lib.ListN.{length, drop, getD, length-take, length-drop}
 use lib.Seq.{getD-take, getD-drop, ext-getD}
-use Rattle.theory.specs.Tests.{upFrom, position}
+use Rattle.theory.specs.Tests.{position}
 use Rattle.theory.specs.Query.{Bytes, byteAt, rowAt}
 use Rattle.theory.proofs.Reflect.{decides-order}
 use Rattle.theory.proofs.RowLaws.{entries}
-use Rattle.theory.proofs.RangeLaws.{entry-at, entry-count}
+use Rattle.theory.proofs.RangeLaws.{entry-of, entry-count, map-more}
 use Rattle.closure.specs.Work.{stateRows}
 use Rattle.states.specs.States.{sameRow}
-use Rattle.states.proofs.PositionLaws.{position-is}
+use Rattle.theory.proofs.PositionLaws.{position-is}
 
 module _ (work : Bytes) (i : ℕ) where
   row-byte : (k : ℕ) → k < 32 → byteAt (rowAt 0 32 i work) k ≡ byteAt work (i * 32 + k)
@@ -35,7 +34,7 @@ module _ (q : ℕ) (work : Bytes) where
   rows-count = entry-count (λ i. rowAt 0 32 i work) 0 q
 
   pub rows-at : (i : ℕ) → i < q → getD (stateRows q work) i [] ≡ rowAt 0 32 i work
-  rows-at i h = entry-at (λ j. rowAt 0 32 j work) 0 q i [] h ∙ ap (λ j. rowAt 0 32 j work) (zero-add i)
+  rows-at i h = entry-of (λ j. rowAt 0 32 j work) q i [] h
 
   -- rows whose bytes are kept are kept
   pub rows-kept : (after : Bytes) → q * 32 ≤ length work → length after ≡ length work → ((j : ℕ) → j < q * 32 → byteAt after j ≡ byteAt work j) → stateRows q after ≡ stateRows q work
@@ -43,12 +42,8 @@ module _ (q : ℕ) (work : Bytes) where
       entries (λ i. rowAt 0 32 i after) (stateRows q work) [] q rows-count
       (λ i l. row-same after i (rowAt 0 32 i work) (omega arith) (row-length work i (omega arith)) (λ k b. each (i * 32 + k) (omega arith) ∙ sym (row-byte work i k b)) ∙ sym (rows-at i l))
 
-pub upFrom-snoc : {A : Type 0} (f : ℕ → A) (k n : ℕ) → map f (upFrom k (suc n)) ≡ map f (upFrom k n) ++ (f (k + n) ∷ [])
-upFrom-snoc f k zero = ap (λ j. f j ∷ []) (sym (add-zero k))
-upFrom-snoc f k (suc n) = ap (λ l. f k ∷ l) (rw (suc-add, ← add-suc) at (upFrom-snoc f (suc k) n))
-
 pub rows-more : (q : ℕ) (work : Bytes) → stateRows (q + 1) work ≡ stateRows q work ++ (rowAt 0 32 q work ∷ [])
-rows-more q work = rw add-one (upFrom-snoc (λ i. rowAt 0 32 i work) 0 q ∙ ap (λ j. stateRows q work ++ (rowAt 0 32 j work ∷ [])) (zero-add q))
+rows-more q work = map-more (λ i. rowAt 0 32 i work) 0 q q (sym (zero-add q))
 
 -- a search that passed i rows and met the bytes there, or passed all
 pub found-at : (work m : Bytes) (q i : ℕ) → i ≤ q → ((k : ℕ) → k < i → m ≡ rowAt 0 32 k work → ⊥) → (i < q → m ≡ rowAt 0 32 i work) → i ≡ position sameRow m (stateRows q work)

@@ -4,24 +4,25 @@ use native.Mathlib.Nat.{add-zero, sub-zero, suc-mul, mul-le-mul}
 use native.Mathlib.Numerals.{add-one}
 use native.Mathlib.Omega.{arith}
 use mathlib.Core.Path.{_≡_, refl, sym, _∙_, ap, subst}
-use mathlib.Core.Bool.{Bool}
 use mathlib.Core.List.{List, [], _∷_, map, List·Memᴰ·head, IsPrefix, flatten}
-use lib.ListN.{length, drop, getD, set, length-set, length-append}
+use lib.ListN.{length, drop, getD, set, length-set}
 use lib.Seq.{getD-drop, getD-set-same, getD-set-other}
+use borrow.Author.Count.{below-more}
 use Rattle.theory.specs.Limits.{maxStates}
-use Rattle.theory.specs.Tests.{Says, holds, fails, position, upFrom}
+use Rattle.theory.specs.Tests.{position, upFrom}
 use Rattle.theory.specs.Closure.{add, addAll}
 use Rattle.theory.specs.Construction.{Marks, sameMarks}
 use Rattle.theory.specs.Query.{Bytes, byteAt, setCount, readQuery}
-use Rattle.theory.proofs.Reflect.{decides-marks, says-eqb}
+use Rattle.theory.proofs.Reflect.{decides-marks}
 use Rattle.theory.proofs.QueryLaws.{query-sizes, set-count}
-use Rattle.theory.proofs.ClosureLaws.{addAll-keeps, addAll-has}
+use Rattle.theory.proofs.ClosureLaws.{addAll-keeps, addAll-has, walk-keeps}
 use Rattle.theory.specs.Scratch.{successorsPart}
 use Rattle.closure.specs.Work.{Ready, statesOf, contentsOf}
 use Rattle.states.specs.States.{Listed, Joined, taken, walkFrom, Visited, Visiting}
 use Rattle.theory.proofs.WalkLaws.{walk-more}
 use Rattle.states.proofs.StateRows.{rows-kept}
-use Rattle.states.proofs.WalkLaws.{prefix-trans, prefix-getD, prefix-position, walk-keeps}
+use Rattle.theory.proofs.ListLaws.{prefix-trans, prefix-getD, prefix-length}
+use Rattle.theory.proofs.PositionLaws.{position-grows}
 use Rattle.states.proofs.JoinedLaws.{listed-count}
 use Rattle.states.proofs.ContentLaws.{successors-at}
 
@@ -30,9 +31,6 @@ pub ahead-prefix : (b : Bytes) (l xs : List Marks) (fuel i : ℕ) → statesOf b
 ahead-prefix b l xs fuel i e =
     prefix-trans l (addAll-keeps decides-marks xs l)
     (subst (λ m. IsPrefix (addAll sameMarks l xs) m) (sym e) (walk-keeps decides-marks (λ ms. map (taken b ms) (upFrom 0 (readQuery b .sets))) maxStates fuel (addAll sameMarks l xs) i))
-
-pub prefix-length : {A : Type 0} (l : List A) {m : List A} → IsPrefix l m → length l ≤ length m
-prefix-length l p = omega (arith, simp length-append at (ap length (p .1)))
 
 -- the place of a successor is within the work memory
 slot-bound : (w i s : ℕ) → w ≤ 8 → i < 128 → s < w → i * w + s < 1024
@@ -111,7 +109,7 @@ module _ {b work : Bytes} {count i : ℕ} where
         let final = ahead-prefix b grown rest (128 - i) (suc i) (on h) in
         let first : i < length grown = omega (arith, listed-count (j .fits few)) in
         let written : number ≡ getD (flatten (contentsOf b .successors)) at 0 =
-        j .place few ∙ sym (prefix-position decides-marks grown final ms (addAll-has decides-marks (ms ∷ []) (v .states) ms (List·Memᴰ·head refl)))
+        j .place few ∙ sym (position-grows decides-marks ms grown final (addAll-has decides-marks (ms ∷ []) (v .states) ms (List·Memᴰ·head refl)))
         ∙ ap (λ k. position sameMarks (taken b k s) (statesOf b)) (sym (prefix-getD grown final i [] first ∙ prefix-getD (v .states) (addAll-keeps decides-marks (ms ∷ []) (v .states)) i [] (omega (arith, v .here, listed-count (v .listed)))))
         ∙ sym (successors-at b i s (omega (arith, prefix-length grown final)) h) in
         record {
@@ -119,11 +117,8 @@ module _ {b work : Bytes} {count i : ℕ} where
           listed = listed-kept at number (omega arith) (j .fits few);
           here = here;
           ahead = on h;
-          stored = λ k l. go k (omega arith) (says-eqb k at) written (omega arith);
+          stored = λ k l.
+              below-more (λ i. byteAt (set after (successorsPart + at) number) (successorsPart + i) ≡ getD (flatten (contentsOf b .successors)) i 0) at
+              (λ i o. getD-set-other after (successorsPart + at) (successorsPart + i) number 0 (omega arith) ∙ behind-kept work after (j .behind) i ∙ v .stored i o)
+              (getD-set-same after (successorsPart + at) number 0 (omega arith) ∙ written) k (omega arith);
         }
-      where
-        go : (k : ℕ) → k < i * setCount b + s + 1 → {t : Bool} → Says (k ≡ i * setCount b + s) t → number ≡ getD (flatten (contentsOf b .successors)) (i * setCount b + s) 0
-            → successorsPart + (i * setCount b + s) < length after
-            → byteAt (set after (successorsPart + (i * setCount b + s)) number) (successorsPart + k) ≡ getD (flatten (contentsOf b .successors)) k 0
-        go k l (holds e) w r = rw e (getD-set-same after (successorsPart + (i * setCount b + s)) number 0 r ∙ w)
-        go k l (fails n) w r = getD-set-other after (successorsPart + (i * setCount b + s)) (successorsPart + k) number 0 (omega arith) ∙ behind-kept work after (j .behind) k ∙ v .stored k (omega arith)

@@ -4,14 +4,15 @@ use native.Mathlib.Omega.{arith}
 use mathlib.Core.Path.{_≡_, refl, sym, _∙_, ap, subst}
 use mathlib.Core.Bool.{Bool, true, false}
 use mathlib.Core.Logic.{⊎-elim}
-use mathlib.Core.List.{List, [], _∷_, _++_, List·Memᴰ, List·Memᴰ·head, List·Memᴰ·tail, List·Memᴰ·not-nil, List·Memᴰ·cases-cons, List·Memᴰ·append-cases, List·Memᴰ·eq-of-singleton, Memᴰ·append-left, Memᴰ·append-right, Memᴰ·cast, IsPrefix, append-nil, append-assoc, head-eq-of-cons-eq}
+use mathlib.Core.List.{List, [], _∷_, _++_, List·Memᴰ, List·Memᴰ·head, List·Memᴰ·tail, List·Memᴰ·not-nil, List·Memᴰ·cases-cons, List·Memᴰ·append-cases, List·Memᴰ·eq-of-singleton, Memᴰ·append-left, Memᴰ·append-right, Memᴰ·cast, IsPrefix, prefix-append, head-eq-of-cons-eq}
 use lib.Dec.{ltb}
-use lib.ListN.{length, take, drop, getD, length-append, length-drop}
+use lib.ListN.{length, take, drop, getD, length-drop}
 use lib.Seq.{take-all, take-suc, take-append-le, drop-cons}
 use Rattle.theory.specs.Tests.{Says, holds, fails, Decides, Distinct, empty}
 use Rattle.theory.specs.Closure.{Found, first, next, More, add, addAll, walk, closure}
 use Rattle.theory.proofs.Reflect.{says-member, says-ltb, says-as}
-use Rattle.theory.proofs.ListLaws.{Within, member-drop, distinct-snoc, distinct-length}
+use Rattle.theory.proofs.ListLaws.{Within, member-drop, prefix-refl, prefix-trans, prefix-within, prefix-length, distinct-snoc, distinct-length}
+use Rattle.theory.proofs.RowLaws.{all-snoc}
 
 -- more things have a property that follows
 pub more-as : {A : Type 0} {n : ℕ} {P Q : A → Type 0} → ((x : A) → P x → Q x) → More n P → More n Q
@@ -19,7 +20,7 @@ more-as f m = record { things = m .things; different = m .different; many = m .m
 
 module _ {A : Type 0} {same : A → A → Bool} (dec : Decides same) where
   -- what is kept by appending a new thing is kept by adding one, by adding several, and by the walk
-  add-ind : (Q : List A → Type 0) {l : List A} (x : A) → Q l → (¬ List·Memᴰ x l → Q (l ++ (x ∷ []))) → Q (add same l x)
+  pub add-ind : (Q : List A → Type 0) {l : List A} (x : A) → Q l → (¬ List·Memᴰ x l → Q (l ++ (x ∷ []))) → Q (add same l x)
   add-ind Q {l} x q more = go (says-member dec x l)
     where
       go : {b : Bool} → Says (List·Memᴰ x l) b → Q (elim b [ true ↦ l | false ↦ l ++ (x ∷ []) ])
@@ -32,13 +33,12 @@ module _ {A : Type 0} {same : A → A → Bool} (dec : Decides same) where
   addAll-ind Q (x ∷ xs) more {l} q =
       addAll-ind Q xs (λ k y m. more k y (List·Memᴰ·tail m)) (add-ind Q x q (λ n. more l x (List·Memᴰ·head refl) n q))
 
-  pub addAll-keeps : (xs l : List A) → IsPrefix l (addAll same l xs)
-  addAll-keeps xs l =
-      addAll-ind (λ k. IsPrefix l k) xs (λ k x m n p. (p .0 ++ (x ∷ []), sym (append-assoc l (p .0) (x ∷ [])) ∙ ap (λ (j : List A). j ++ (x ∷ [])) (p .1)))
-      ([], append-nil l)
+  pub addAll-append : (l xs ys : List A) → addAll same l (xs ++ ys) ≡ addAll same (addAll same l xs) ys
+  addAll-append l [] ys = refl
+  addAll-append l (x ∷ xs) ys = addAll-append (add same l x) xs ys
 
-  prefix-within : {l m : List A} → IsPrefix l m → Within l m
-  prefix-within p x k = subst (λ (m : List A). List·Memᴰ x m) (p .1) (Memᴰ·append-left (p .0) k)
+  pub addAll-keeps : (xs l : List A) → IsPrefix l (addAll same l xs)
+  addAll-keeps xs l = addAll-ind (λ k. IsPrefix l k) xs (λ k x m n p. prefix-trans l p (prefix-append k (x ∷ []))) (prefix-refl l)
 
   add-has : (l : List A) (x : A) → List·Memᴰ x (add same l x)
   add-has l x = go (says-member dec x l)
@@ -50,7 +50,7 @@ module _ {A : Type 0} {same : A → A → Bool} (dec : Decides same) where
   pub addAll-has : (xs l : List A) → Within xs (addAll same l xs)
   addAll-has [] l x m = absurd (List·Memᴰ·not-nil m)
   addAll-has (y ∷ ys) l x m =
-      ⊎-elim (λ e. prefix-within (addAll-keeps ys (add same l y)) x (Memᴰ·cast e (add-has l y))) (λ k. addAll-has ys (add same l y) x k) (List·Memᴰ·cases-cons m)
+      ⊎-elim (λ e. prefix-within (add same l y) (addAll-keeps ys (add same l y)) x (Memᴰ·cast e (add-has l y))) (λ k. addAll-has ys (add same l y) x k) (List·Memᴰ·cases-cons m)
 
   module _ (out : A → List A) (cap : ℕ) where
     walk-ind : (Q : List A → Type 0) → ((l : List A) (x y : A) → List·Memᴰ x l → List·Memᴰ y (out x) → ¬ List·Memᴰ y l → Q l → Q (l ++ (y ∷ []))) →
@@ -68,6 +68,9 @@ module _ {A : Type 0} {same : A → A → Bool} (dec : Decides same) where
         go [] w on = q
         go (x ∷ rest) w on = visit (w x (List·Memᴰ·head refl)) on (ltb cap (length l))
 
+    pub walk-keeps : (fuel : ℕ) (l : List A) (i : ℕ) → IsPrefix l (walk same out cap fuel l i)
+    walk-keeps fuel l i = walk-ind (λ k. IsPrefix l k) (λ k x y m o n p. prefix-trans l p (prefix-append k (y ∷ []))) fuel l i (prefix-refl l)
+
     -- whatever the first i things, or all things, of the list lead to is in it
     abbrev Settled : List A → ℕ → Type 0
     Settled l i = (x : A) → List·Memᴰ x (take i l) → Within (out x) l
@@ -81,7 +84,7 @@ module _ {A : Type 0} {same : A → A → Bool} (dec : Decides same) where
         let grown = addAll-keeps (out x) l in
         let begun : take (suc i) (addAll same l (out x)) ≡ take i l ++ (x ∷ []) =
         ap (take (suc i)) (sym (grown .1)) ∙ take-append-le (suc i) l (grown .0) h ∙ take-suc l i x h ∙ ap (λ c. take i l ++ (c ∷ [])) at in
-        ⊎-elim (λ k. prefix-within grown z (s y k z o)) (λ k. addAll-has (out x) l z (subst (λ w. List·Memᴰ z (out w)) (List·Memᴰ·eq-of-singleton k) o))
+        ⊎-elim (λ k. prefix-within l grown z (s y k z o)) (λ k. addAll-has (out x) l z (subst (λ w. List·Memᴰ z (out w)) (List·Memᴰ·eq-of-singleton k) o))
         (List·Memᴰ·append-cases (take i l) (subst (λ k. List·Memᴰ y k) begun m))
 
     walk-closed : (fuel : ℕ) (l : List A) (i : ℕ) → i ≤ length l → fuel + i ≡ suc cap → Settled l i →
@@ -97,8 +100,7 @@ module _ {A : Type 0} {same : A → A → Bool} (dec : Decides same) where
         visit d on (holds more) few = let z : ⊥ = omega arith in absurd z
         visit {x} d on (fails n) few =
             let more : i < length l = omega (arith, simp length-drop at (ap length d)) in
-            let grown = addAll-keeps (out x) l in
-            let longer : suc i ≤ length (addAll same l (out x)) = omega (arith, simp length-append at (ap length (grown .1))) in
+            let longer : suc i ≤ length (addAll same l (out x)) = omega (arith, prefix-length l (addAll-keeps (out x) l)) in
             on (addAll same l (out x)) (suc i) longer (omega arith) (settled-more s d more) few
 
         go : (r : List A) → drop i l ≡ r → Rest →
@@ -119,11 +121,9 @@ module _ {A : Type 0} {same : A → A → Bool} (dec : Decides same) where
           (x : A) → List·Memᴰ x (closure same out cap start) → P x
       closure-all P here on =
           walk-ind (λ l. (x : A) → List·Memᴰ x l → P x)
-          (λ l x y m o n all z k. ⊎-elim (λ j. all z j) (λ j. subst P (sym (List·Memᴰ·eq-of-singleton j)) (on x y (all x m) o)) (List·Memᴰ·append-cases l k))
+          (λ l x y m o n all. all-snoc l all (on x y (all x m) o))
           (suc cap) (addAll same [] start) zero
-          (addAll-ind (λ l. (x : A) → List·Memᴰ x l → P x) start
-          (λ l x m n all z k. ⊎-elim (λ j. all z j) (λ j. subst P (sym (List·Memᴰ·eq-of-singleton j)) (here x m)) (List·Memᴰ·append-cases l k))
-          (λ x m. absurd (List·Memᴰ·not-nil m)))
+          (addAll-ind (λ l. (x : A) → List·Memᴰ x l → P x) start (λ l x m n all. all-snoc l all (here x m)) (λ x m. absurd (List·Memᴰ·not-nil m)))
 
       pub closure-found : (x : A) → List·Memᴰ x (closure same out cap start) → Found out start x
       closure-found = closure-all (Found out start) (λ x m. first m) (λ x y f o. next f o)

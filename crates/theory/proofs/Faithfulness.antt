@@ -16,7 +16,7 @@ use Rattle.theory.specs.Refusals.{passed, firstRefusal, firstOf}
 use Rattle.theory.specs.Machine.{Machine}
 use Rattle.theory.specs.Query.{Bytes, byteAt}
 use Rattle.theory.specs.Construction.{sizesOf}
-use Rattle.theory.specs.Table.{Table, tableOf, numbersOf, machineIn, writeTable, statesIn, producedIn, testedIn, setsIn, startIn, successorsBase, successorIn, stateRefusal, formRefusal, startsRefusal, successorsRefusal, heldRefusal, tableRefusal}
+use Rattle.theory.specs.Table.{Table, tableOf, machineIn, writeTable, statesIn, producedIn, testedIn, setsIn, startIn, successorsBase, successorIn, stateRefusal, formRefusal, startsRefusal, successorsRefusal, heldRefusal, tableRefusal}
 use Rattle.theory.specs.Lookups.{Tells, Faithful}
 use Rattle.theory.proofs.RefusalLaws.{or-passed, first-passed, refused-else}
 use Rattle.theory.proofs.TableLaws.{written-check}

@@ -4,9 +4,10 @@ use native.Mathlib.Nat.{le-of-suc-le-suc, le-refl, le-suc, not-suc-le-zero}
 use mathlib.Core.Path.{_≡_, refl, sym, _∙_, ap, subst}
 use mathlib.Core.Bool.{Bool, true, false}
 use mathlib.Core.Logic.{_⊎_, inl, inr, ⊎-elim}
-use mathlib.Core.List.{List, [], _∷_, _++_, append-nil, append-assoc, List·Memᴰ, List·Memᴰ·head, List·Memᴰ·tail, List·Memᴰ·cases-cons, Memᴰ·append-left, IsPrefix, tail-eq-of-cons-eq, nil≢cons}
+use mathlib.Core.List.{List, [], _∷_, _++_, append-nil, append-assoc, List·Memᴰ, List·Memᴰ·head, List·Memᴰ·tail, List·Memᴰ·cases-cons, IsPrefix, tail-eq-of-cons-eq, nil≢cons}
 use Rattle.theory.specs.Orders.{Order, Orderings, Rule, Same, Change, shorten, insert, behind, before, instead, Step, at, Reach, given, step, Taken, whole}
 use Rattle.theory.specs.Construction.{keep, keepFirst}
+use Rattle.theory.proofs.ListLaws.{prefix-within}
 
 -- every member of the first set is in the second
 abbrev pub Within : Orderings → Orderings → Type 0
@@ -57,7 +58,7 @@ module _ (w : ℕ → Bool) where
   keep-cons zero c o = refl
   keep-cons (suc m) c o = ap (λ r. keepFirst (w c) c r) (keep-keep m (suc m) o (le-suc m))
 
-  keep-prefix : (n : ℕ) (o : Order) → IsPrefix (keep w n o) o
+  pub keep-prefix : (n : ℕ) (o : Order) → IsPrefix (keep w n o) o
   keep-prefix zero o = (o, refl)
   keep-prefix (suc n) [] = ([], refl)
   keep-prefix (suc n) (c ∷ o) = go (w c) (keep-prefix n o)
@@ -91,12 +92,12 @@ module _ (w : ℕ → Bool) where
   pub cut-keep : (n : ℕ) → Cut (keep w n)
   cut-keep n = record { again = λ o. keep-keep n n o (le-refl n); fixes = keep-fixes n }
 
-  keep-nil : (m : ℕ) → keep w m [] ≡ []
+  pub keep-nil : (m : ℕ) → keep w m [] ≡ []
   keep-nil zero = refl
   keep-nil (suc m) = refl
 
   member-keep : (m : ℕ) (o : Order) {c : ℕ} → List·Memᴰ c (keep w m o) → List·Memᴰ c o
-  member-keep m o {c} k = let p = keep-prefix m o in subst (List·Memᴰ c) (p .1) (Memᴰ·append-left (p .0) k)
+  member-keep m o {c} k = prefix-within (keep w m o) (keep-prefix m o) c k
 
   -- (a) What the kept derivation gives, the uncut one gives: a kept part is a prefix, and prefixes are steps.
   reach-uncut : (n : ℕ) (rs : List Rule) (X Y : Orderings) → Within X Y → Within (Reach (keep w n) rs X) (Reach whole rs Y)

@@ -18,6 +18,7 @@ pub mod Picks
 pub mod RefusalLaws
 pub mod RowLaws
 pub mod RangeLaws
+pub mod BitLaws
 pub mod QueryLaws
 pub mod TableLaws
 pub mod MachineTable

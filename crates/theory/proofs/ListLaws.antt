@@ -1,11 +1,11 @@
--- Facts about lists as sets: membership under take and drop, and the pigeonhole.
+-- Facts about lists as sets: membership under take and drop, beginnings, and the pigeonhole.
 use Prim.Native.Nat.{ℕ, zero, suc, _+_, _≤_, _<_, zero-le, suc-le-suc}
 use native.Mathlib.Nat.{le-of-suc-le-suc, not-suc-le-zero, eq-or-lt-of-le}
 use native.Mathlib.Omega.{arith}
 use mathlib.Core.Path.{_≡_, refl, sym, _∙_, ap, subst}
 use mathlib.Core.Logic.{⊎-elim}
-use mathlib.Core.List.{List, [], _∷_, _++_, map, List·Memᴰ, List·Memᴰ·head, List·Memᴰ·tail, List·Memᴰ·not-nil, List·Memᴰ·cases-cons, List·Memᴰ·append-cases, List·Memᴰ·eq-of-singleton, Memᴰ·append-left, Memᴰ·append-right, Memᴰ·cast, Memᴰ·map, Memᴰ·of-map, flatten}
-use lib.ListN.{length, drop, getD, length-append}
+use mathlib.Core.List.{List, [], _∷_, _++_, map, List·Memᴰ, List·Memᴰ·head, List·Memᴰ·tail, List·Memᴰ·not-nil, List·Memᴰ·cases-cons, List·Memᴰ·append-cases, List·Memᴰ·eq-of-singleton, Memᴰ·append-left, Memᴰ·append-right, Memᴰ·cast, Memᴰ·map, Memᴰ·of-map, append-nil, append-assoc, IsPrefix, flatten}
+use lib.ListN.{length, drop, getD, length-append, List·getD-append}
 use Rattle.theory.specs.Tests.{Distinct, empty, also, upFrom}
 
 module _ {A : Type 0} where
@@ -27,6 +27,22 @@ module _ {A : Type 0} where
   pub getD-member : {x : A} {l : List A} (d : A) → List·Memᴰ x l → (i : ℕ) × (i < length l) × (getD l i d ≡ x)
   getD-member d (List·Memᴰ·head e) = (zero, suc-le-suc zero-le, sym e)
   getD-member d (List·Memᴰ·tail m) = let t = getD-member d m in (suc (t .0), suc-le-suc (t .1), t .2)
+
+  -- the beginnings of a list: a thing keeps its place, and a place its thing, in a longer list
+  pub prefix-refl : (l : List A) → IsPrefix l l
+  prefix-refl l = ([], append-nil l)
+
+  pub prefix-trans : (k : List A) {l m : List A} → IsPrefix k l → IsPrefix l m → IsPrefix k m
+  prefix-trans k p q = (p .0 ++ q .0, sym (append-assoc k (p .0) (q .0)) ∙ ap (λ l. l ++ q .0) (p .1) ∙ q .1)
+
+  pub prefix-within : (l : List A) {m : List A} → IsPrefix l m → Within l m
+  prefix-within l p x k = subst (λ (m : List A). List·Memᴰ x m) (p .1) (Memᴰ·append-left (p .0) k)
+
+  pub prefix-length : (l : List A) {m : List A} → IsPrefix l m → length l ≤ length m
+  prefix-length l p = omega (arith, simp length-append at (ap length (p .1)))
+
+  pub prefix-getD : (l : List A) {m : List A} → IsPrefix l m → (i : ℕ) (d : A) → i < length l → getD m i d ≡ getD l i d
+  prefix-getD l p i d h = ap (λ k. getD k i d) (sym (p .1)) ∙ List·getD-append l (p .0) d i h
 
   distinct-rest : {x : A} {xs : List A} → Distinct (x ∷ xs) → (¬ List·Memᴰ x xs) × Distinct xs
   distinct-rest (also n d) = (n, d)

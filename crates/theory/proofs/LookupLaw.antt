@@ -1,7 +1,6 @@
 -- Whatever table is faithful to a query, every list of lookups that begins with a granted entry gets, lookup for lookup, the plain model's refusals
 -- and answers. Nothing is known of how the table came about: its faithfulness, the row theorem and the definitions of the lookups are all.
 use Prim.Native.Nat.{ℕ, _+_, _/_, _%_, _^_, _<_, _≤_}
-use native.Mathlib.Nat.{zero-add}
 use native.Mathlib.Omega.{arith}
 use mathlib.Core.Path.{_≡_, refl, sym, _∙_, ap, subst}
 use mathlib.Core.Bool.{Bool, true, false}
@@ -9,7 +8,7 @@ use mathlib.Core.List.{List, [], _∷_, _++_, List·Memᴰ·head}
 use lib.Dec.{ltb, eqb}
 use lib.ListN.{length, getD, length-append}
 use borrow.Author.Tests.{lt-ltb, le-ltb}
-use Rattle.theory.specs.Tests.{pick, Says, holds, fails, upFrom}
+use Rattle.theory.specs.Tests.{pick, Says, holds, fails}
 use Rattle.theory.specs.Orders.{Order, Query, interesting, After}
 use Rattle.theory.specs.Rows.{HoldsOfRows}
 use Rattle.theory.specs.Refusals.{handle-refused}
@@ -18,8 +17,7 @@ use Rattle.theory.specs.Query.{Bytes, byteAt}
 use Rattle.theory.specs.Table.{refuse, grant, enter, takeIn, ask, statesIn, producedIn, testedIn, setsIn, startIn, successorIn, heldIn, heldBit, heldOrders, machineIn, bit}
 use Rattle.theory.specs.Lookups.{Lookup, entry, taking, asking, run, Answers, done, entry-refused, entry-granted, take-refused, take-granted, ask-refused, ask-granted, Faithful}
 use Rattle.theory.proofs.Reflect.{says-true, says-eqb, says-ltb}
-use Rattle.theory.proofs.ListLaws.{upFrom-length, upFrom-getD}
-use Rattle.theory.proofs.RowLaws.{getD-map}
+use Rattle.theory.proofs.RangeLaws.{entry-of}
 use Rattle.theory.proofs.MachineLaws.{below-nil, below-tail, below-snoc, runs-snoc}
 
 -- a number is below a bound, written in two ways, or it is not
@@ -48,8 +46,7 @@ held-listed : (t : Bytes) (state i : ℕ) → i < producedIn t + testedIn t → 
 held-listed t state i h =
     let n = producedIn t + testedIn t in
     let here : getD (heldOrders t state) i false ≡ eqb (heldBit t state i) 1 =
-    getD-map (λ k. eqb (heldBit t state k) 1) (upFrom 0 n) i false 0 (subst (λ k. i < k) (sym (upFrom-length 0 n)) h)
-    ∙ ap (λ k. eqb (heldBit t state k) 1) (upFrom-getD 0 n i 0 h ∙ zero-add i) in
+    entry-of (λ k. eqb (heldBit t state k) 1) n i false h in
     bit-tested (byteAt (heldIn t state) (i / 8) / 2 ^ (i % 8)) ∙ ap bit (sym here)
 
 module _ {q : Query} {t : Bytes} (f : Faithful q t) where

@@ -1,11 +1,9 @@
 -- The numbered states of a machine are exactly the reached ones, each once, or there are more than the limit.
 use Prim.Native.Nat.{ℕ, zero, _≤_, _<_}
-use native.Mathlib.Nat.{zero-add}
 use native.Mathlib.Omega.{arith}
-use mathlib.Core.Path.{_≡_, refl, sym, _∙_, ap, subst}
-use mathlib.Core.Bool.{Bool}
-use mathlib.Core.Logic.{⊎-elim, _↔_}
-use mathlib.Core.List.{List, [], _∷_, _++_, map, List·Memᴰ, List·Memᴰ·head, List·Memᴰ·tail, List·Memᴰ·not-nil, List·Memᴰ·eq-of-singleton, List·Memᴰ·append-cases, Memᴰ·map, Memᴰ·of-map}
+use mathlib.Core.Path.{_≡_, refl, _∙_, ap, subst}
+use mathlib.Core.Logic.{_↔_}
+use mathlib.Core.List.{List, [], _∷_, _++_, map, List·Memᴰ, List·Memᴰ·head, List·Memᴰ·tail, List·Memᴰ·not-nil, Memᴰ·map, Memᴰ·of-map}
 use lib.Dec.{ltb}
 use lib.ListN.{length}
 use Rattle.theory.specs.Tests.{Says, Decides, Distinct, upFrom}
@@ -13,6 +11,7 @@ use Rattle.theory.specs.Closure.{Found, first, next, More}
 use Rattle.theory.specs.Machine.{Sizes, Machine, AllBelow, runs, Reached, numberedWithin}
 use Rattle.theory.proofs.Reflect.{says-as}
 use Rattle.theory.proofs.ListLaws.{member-upFrom, upFrom-member}
+use Rattle.theory.proofs.RowLaws.{all-snoc}
 use Rattle.theory.proofs.ClosureLaws.{closure-distinct, closure-found, closure-complete, closure-many, more-as}
 
 -- no set, one set more in front, and one more behind
@@ -23,7 +22,7 @@ pub below-tail : (n : ℕ) {s : ℕ} {ss : List ℕ} → AllBelow n (s ∷ ss) �
 below-tail n b r m = b r (List·Memᴰ·tail m)
 
 pub below-snoc : (n : ℕ) {ss : List ℕ} {s : ℕ} → AllBelow n ss → s < n → AllBelow n (ss ++ (s ∷ []))
-below-snoc n {ss} {s} b h r m = ⊎-elim (b r) (λ l. let e : r ≡ s = List·Memᴰ·eq-of-singleton l in omega arith) (List·Memᴰ·append-cases ss m)
+below-snoc n {ss} b h = all-snoc ss b h
 
 module _ {X : Type 0} (m : Machine X) where
   -- a set more is one move more

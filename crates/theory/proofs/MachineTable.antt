@@ -1,20 +1,18 @@
 -- The table of a machine arrives where the machine arrives and holds what it holds: first its numbers, then its bytes.
 use Prim.Native.Nat.{ℕ, _+_, _≤_, _<_}
-use native.Mathlib.Nat.{zero-add}
 use native.Mathlib.Omega.{arith}
-use mathlib.Core.Path.{_≡_, refl, sym, _∙_, ap, ap₂, subst}
-use mathlib.Core.Bool.{Bool, false}
+use mathlib.Core.Path.{_≡_, refl, sym, _∙_, ap, subst}
 use mathlib.Core.Logic.{_↔_}
 use mathlib.Core.List.{List, [], _∷_, map, List·Memᴰ, List·Memᴰ·head, Memᴰ·of-map}
 use lib.ListN.{length, getD, length-map}
 use Rattle.theory.specs.Tests.{Decides, position, upFrom}
 use Rattle.theory.specs.Limits.{maxStates, maxProduced, maxTested, maxSets}
 use Rattle.theory.specs.Machine.{Sizes, Machine, AllBelow, runs, Reached}
-use Rattle.theory.specs.Query.{Bytes}
 use Rattle.theory.specs.Table.{Table, Sized, Numbered, tableOf, numbersOf, machineIn, writeTable}
 use Rattle.theory.proofs.PositionLaws.{position-bound, position-reads}
-use Rattle.theory.proofs.ListLaws.{member-getD, member-upFrom, upFrom-length, upFrom-getD}
+use Rattle.theory.proofs.ListLaws.{member-getD, member-upFrom}
 use Rattle.theory.proofs.RowLaws.{getD-map}
+use Rattle.theory.proofs.RangeLaws.{entry-of, entry-count}
 use Rattle.theory.proofs.MachineLaws.{below-tail, reached-start, reached-next, reached-runs}
 use Rattle.theory.proofs.TableLaws.{written-start, written-successor, held-back}
 
@@ -32,84 +30,98 @@ pub record Enumerated {X : Type 0} (m : Machine X) (z : Sizes) (xs : List X) : T
   pub exactly : (x : X) → List·Memᴰ x xs ↔ Reached m z x
   pub wide : (x : X) → Reached m z x → length (m .held x) ≡ z .produced + z .tested
 
-module _ {X : Type 0} (m : Machine X) (z : Sizes) (xs : List X) (limits : Limited z) (known : Enumerated m z xs) where
+module _ {X : Type 0} (m : Machine X) (z : Sizes) (xs : List X) where
   abbrev numbered : Table
   numbered = tableOf m z xs
 
   abbrev number : X → ℕ
   number x = position (m .same) x xs
 
-  number-below : (x : X) → Reached m z x → number x < length xs
-  number-below x r = position-bound (known .decides) x xs (known .exactly x .1 r)
-
-  number-reads : (x : X) (d : X) → Reached m z x → getD xs (number x) d ≡ x
-  number-reads x d r = position-reads (known .decides) x d xs (known .exactly x .1 r)
-
-  pub table-sized : Sized numbered
+  -- how many starts and rows the table has, how wide the rows are, and what the starts and the successors are
+  pub starts-count : length (numbered .starts) ≡ z .produced
   unfolding tableOf
-  table-sized =
-      record {
-        some-state = let h = number-below (m .start 0) (reached-start m z 0 (limits .some-produced)) in omega arith;
-        few-states = known .few;
-        some-produced = limits .some-produced;
-        few-produced = limits .few-produced;
-        few-tested = limits .few-tested;
-        few-sets = limits .few-sets;
-        starts-count = length-map (upFrom 0 (z .produced)) (λ p. number (m .start p)) ∙ upFrom-length 0 (z .produced);
-        rows-count = length-map xs (λ x. map (λ s. number (m .next x s)) (upFrom 0 (z .sets)));
-        row-width = λ r k. let t = Memᴰ·of-map (λ x. map (λ s. number (m .next x s)) (upFrom 0 (z .sets))) xs k in
-            ap length (sym (t .2)) ∙ length-map (upFrom 0 (z .sets)) (λ s. number (m .next (t .0) s)) ∙ upFrom-length 0 (z .sets);
-        held-count = length-map xs (λ x. m .held x);
-        held-width = λ h k. let t = Memᴰ·of-map (λ x. m .held x) xs k in ap length (sym (t .2)) ∙ known .wide (t .0) (known .exactly (t .0) .0 (t .1));
-      }
+  starts-count = entry-count (λ p. number (m .start p)) 0 (z .produced)
 
-  pub table-numbered : Numbered numbered
+  pub start-number : (p : ℕ) → p < z .produced → numbersOf numbered .start p ≡ number (m .start p)
   unfolding tableOf
-  table-numbered =
-      record {
-        starts-below = λ n k.
-            let t = Memᴰ·of-map (λ p. number (m .start p)) (upFrom 0 (z .produced)) k in
-            let b = member-upFrom 0 (z .produced) (t .1) in
-            subst (λ j. j < length xs) (t .2) (number-below (m .start (t .0)) (reached-start m z (t .0) (omega arith)));
-        successors-below = λ r k n l.
-            let t = Memᴰ·of-map (λ x. map (λ s. number (m .next x s)) (upFrom 0 (z .sets))) xs k in
-            let u = Memᴰ·of-map (λ s. number (m .next (t .0) s)) (upFrom 0 (z .sets)) (subst (λ row. List·Memᴰ n row) (sym (t .2)) l) in
-            let b = member-upFrom 0 (z .sets) (u .1) in
-            subst (λ j. j < length xs) (u .2) (number-below (m .next (t .0) (u .0)) (reached-next m z (t .0) (u .0) (known .exactly (t .0) .0 (t .1)) (omega arith)));
-      }
+  start-number p h = entry-of (λ r. number (m .start r)) (z .produced) p 0 h
 
-  -- a start, a successor and the held orders as the table has them
-  start-number : (p : ℕ) → p < z .produced → numbersOf numbered .start p ≡ number (m .start p)
+  abbrev rowOf : X → List ℕ
+  rowOf x = map (λ s. number (m .next x s)) (upFrom 0 (z .sets))
+
+  pub rows-count : length (numbered .successors) ≡ length xs
   unfolding tableOf
-  start-number p h =
-      getD-map (λ r. number (m .start r)) (upFrom 0 (z .produced)) p 0 0 (subst (λ n. p < n) (sym (upFrom-length 0 (z .produced))) h)
-      ∙ ap (λ r. number (m .start r)) (upFrom-getD 0 (z .produced) p 0 h ∙ zero-add p)
+  rows-count = length-map xs rowOf
 
-  successor-number : (x : X) (s : ℕ) → Reached m z x → s < z .sets → numbersOf numbered .next (number x) s ≡ number (m .next x s)
+  pub row-width : (r : List ℕ) → List·Memᴰ r (numbered .successors) → length r ≡ z .sets
   unfolding tableOf
-  successor-number x s r h =
-      ap (λ row. getD row s 0) (getD-map (λ y. map (λ n. number (m .next y n)) (upFrom 0 (z .sets))) xs (number x) [] x (number-below x r))
-      ∙ getD-map (λ n. number (m .next (getD xs (number x) x) n)) (upFrom 0 (z .sets)) s 0 0 (subst (λ n. s < n) (sym (upFrom-length 0 (z .sets))) h)
-      ∙ ap₂ (λ y n. number (m .next y n)) (number-reads x x r) (upFrom-getD 0 (z .sets) s 0 h ∙ zero-add s)
+  row-width r k = let t = Memᴰ·of-map rowOf xs k in ap length (sym (t .2)) ∙ entry-count (λ s. number (m .next (t .0) s)) 0 (z .sets)
 
-  held-number : (x : X) → Reached m z x → numbersOf numbered .held (number x) ≡ m .held x
+  pub next-number : (i s : ℕ) (d : X) → i < length xs → s < z .sets → numbersOf numbered .next i s ≡ number (m .next (getD xs i d) s)
   unfolding tableOf
-  held-number x r = getD-map (λ y. m .held y) xs (number x) [] x (number-below x r) ∙ ap (λ y. m .held y) (number-reads x x r)
+  next-number i s d l h = ap (λ row. getD row s 0) (getD-map rowOf xs i [] d l) ∙ entry-of (λ n. number (m .next (getD xs i d) n)) (z .sets) s 0 h
 
-  -- a run of the numbers arrives at the number of the state at which the machine arrives
-  run-number : (ss : List ℕ) → AllBelow (z .sets) ss → (x : X) → Reached m z x → runs (numbersOf numbered) (number x) ss ≡ number (runs m x ss)
-  run-number [] b x r = refl
-  run-number (s ∷ ss) b x r =
-      let h = b s (List·Memᴰ·head refl) in
-      ap (λ n. runs (numbersOf numbered) n ss) (successor-number x s r h) ∙ run-number ss (below-tail (z .sets) b) (m .next x s) (reached-next m z x s r h)
+  module _ (limits : Limited z) (known : Enumerated m z xs) where
+    number-below : (x : X) → Reached m z x → number x < length xs
+    number-below x r = position-bound (known .decides) x xs (known .exactly x .1 r)
 
-  -- The table's numbers answer as the machine does.
-  pub numbers-answer : (p : ℕ) (ss : List ℕ) → p < z .produced → AllBelow (z .sets) ss →
-      numbersOf numbered .held (runs (numbersOf numbered) (numbersOf numbered .start p) ss) ≡ m .held (runs m (m .start p) ss)
-  numbers-answer p ss h b =
-      let r = reached-start m z p h in
-      ap (numbersOf numbered .held) (ap (λ n. runs (numbersOf numbered) n ss) (start-number p h) ∙ run-number ss b (m .start p) r)
-      ∙ held-number (runs m (m .start p) ss) (reached-runs m z ss b (m .start p) r)
+    number-reads : (x : X) (d : X) → Reached m z x → getD xs (number x) d ≡ x
+    number-reads x d r = position-reads (known .decides) x d xs (number-below x r)
+
+    pub table-sized : Sized numbered
+    unfolding tableOf
+    table-sized =
+        record {
+          some-state = let h = number-below (m .start 0) (reached-start m z 0 (limits .some-produced)) in omega arith;
+          few-states = known .few;
+          some-produced = limits .some-produced;
+          few-produced = limits .few-produced;
+          few-tested = limits .few-tested;
+          few-sets = limits .few-sets;
+          starts-count = starts-count;
+          rows-count = rows-count;
+          row-width = row-width;
+          held-count = length-map xs (λ x. m .held x);
+          held-width = λ h k. let t = Memᴰ·of-map (λ x. m .held x) xs k in ap length (sym (t .2)) ∙ known .wide (t .0) (known .exactly (t .0) .0 (t .1));
+        }
+
+    pub table-numbered : Numbered numbered
+    unfolding tableOf
+    table-numbered =
+        record {
+          starts-below = λ n k.
+              let t = Memᴰ·of-map (λ p. number (m .start p)) (upFrom 0 (z .produced)) k in
+              let b = member-upFrom 0 (z .produced) (t .1) in
+              subst (λ j. j < length xs) (t .2) (number-below (m .start (t .0)) (reached-start m z (t .0) (omega arith)));
+          successors-below = λ r k n l.
+              let t = Memᴰ·of-map (λ x. map (λ s. number (m .next x s)) (upFrom 0 (z .sets))) xs k in
+              let u = Memᴰ·of-map (λ s. number (m .next (t .0) s)) (upFrom 0 (z .sets)) (subst (λ row. List·Memᴰ n row) (sym (t .2)) l) in
+              let b = member-upFrom 0 (z .sets) (u .1) in
+              subst (λ j. j < length xs) (u .2) (number-below (m .next (t .0) (u .0)) (reached-next m z (t .0) (u .0) (known .exactly (t .0) .0 (t .1)) (omega arith)));
+        }
+
+    -- a successor and the held orders as the table has them
+    successor-number : (x : X) (s : ℕ) → Reached m z x → s < z .sets → numbersOf numbered .next (number x) s ≡ number (m .next x s)
+    successor-number x s r h = next-number (number x) s x (number-below x r) h ∙ ap (λ y. number (m .next y s)) (number-reads x x r)
+
+    held-number : (x : X) → Reached m z x → numbersOf numbered .held (number x) ≡ m .held x
+    unfolding tableOf
+    held-number x r = getD-map (λ y. m .held y) xs (number x) [] x (number-below x r) ∙ ap (λ y. m .held y) (number-reads x x r)
+
+    -- a run of the numbers arrives at the number of the state at which the machine arrives
+    run-number : (ss : List ℕ) → AllBelow (z .sets) ss → (x : X) → Reached m z x → runs (numbersOf numbered) (number x) ss ≡ number (runs m x ss)
+    run-number [] b x r = refl
+    run-number (s ∷ ss) b x r =
+        let h = b s (List·Memᴰ·head refl) in
+        ap (λ n. runs (numbersOf numbered) n ss) (successor-number x s r h) ∙ run-number ss (below-tail (z .sets) b) (m .next x s) (reached-next m z x s r h)
+
+    -- The table's numbers answer as the machine does.
+    pub numbers-answer : (p : ℕ) (ss : List ℕ) → p < z .produced → AllBelow (z .sets) ss →
+        numbersOf numbered .held (runs (numbersOf numbered) (numbersOf numbered .start p) ss) ≡ m .held (runs m (m .start p) ss)
+    numbers-answer p ss h b =
+        let r = reached-start m z p h in
+        ap (numbersOf numbered .held) (ap (λ n. runs (numbersOf numbered) n ss) (start-number p h) ∙ run-number ss b (m .start p) r)
+        ∙ held-number (runs m (m .start p) ss) (reached-runs m z ss b (m .start p) r)
 
 module _ (t : Table) (sized : Sized t) (closed : Numbered t) where
   -- the table's numbers stay below the count of states

@@ -1,9 +1,9 @@
 -- The computed nodes are exactly the orderings reached from any start by any sets, each once, or there are more than the limit.
 use Prim.Native.Nat.{ℕ, zero, _≤_}
-use mathlib.Core.Path.{_≡_, refl, sym, ap, subst}
+use mathlib.Core.Path.{_≡_, refl, sym, subst}
 use mathlib.Core.Bool.{Bool, true, false}
 use mathlib.Core.Logic.{inl, inr, ⊎-elim, ⊎-map, _↔_}
-use mathlib.Core.List.{List, [], _∷_, _++_, map, append-nil, List·Memᴰ, List·Memᴰ·head, List·Memᴰ·tail, List·Memᴰ·not-nil, List·Memᴰ·cases-cons, Memᴰ·append-left, Memᴰ·map, Memᴰ·of-map}
+use mathlib.Core.List.{List, [], _∷_, _++_, map, map-append, append-nil, List·Memᴰ, List·Memᴰ·head, List·Memᴰ·tail, List·Memᴰ·not-nil, List·Memᴰ·cases-cons, Memᴰ·append-left, Memᴰ·map, Memᴰ·of-map}
 use lib.Dec.{ltb, eqb}
 use lib.ListN.{length}
 use Rattle.theory.specs.Tests.{Says, holds, fails, pick, Distinct}
@@ -87,10 +87,6 @@ pub taken-snoc : (cut : Order → Order) (rss : List (List Rule)) (rs : List Rul
 taken-snoc cut [] rs X o m = m
 taken-snoc cut (qs ∷ rss) rs X o m = taken-snoc cut rss rs (Reach cut qs X) o m
 
-pub map-snoc : {A B : Type 0} (f : A → B) (l : List A) (x : A) → map f (l ++ (x ∷ [])) ≡ map f l ++ (f x ∷ [])
-map-snoc f [] x = refl
-map-snoc f (y ∷ l) x = ap (λ m. f y ∷ m) (map-snoc f l x)
-
 -- a node's kept results under any set are nodes
 pub node-next : (q : Query) (s : ℕ) (o r : Order) → Node q o → Step (rulesOf q s) o r → Node q (kept q r)
 node-next q s o r n st =
@@ -99,7 +95,7 @@ node-next q s o r n st =
       produced = n .produced;
       sets = n .sets ++ (s ∷ []);
       reached =
-          rw (map-snoc (rulesOf q) (n .sets) s) (taken-snoc (kept q) (map (rulesOf q) (n .sets)) (rulesOf q s) (Start (n .start)) (kept q r) (step (given (n .reached)) st));
+          rw (map-append (rulesOf q) (n .sets) (s ∷ [])) (taken-snoc (kept q) (map (rulesOf q) (n .sets)) (rulesOf q s) (Start (n .start)) (kept q r) (step (given (n .reached)) st));
     }
 
 module _ (q : Query) where

@@ -15,6 +15,9 @@ use Rattle.theory.proofs.RowLaws.{getD-map}
 pub entry-at : {A : Type 0} (f : ℕ → A) (k n i : ℕ) (d : A) → i < n → getD (map f (upFrom k n)) i d ≡ f (k + i)
 entry-at f k n i d h = getD-map f (upFrom k n) i d 0 (rw upFrom-length h) ∙ ap f (upFrom-getD k n i 0 h)
 
+pub entry-of : {A : Type 0} (f : ℕ → A) (n i : ℕ) (d : A) → i < n → getD (map f (upFrom 0 n)) i d ≡ f i
+entry-of f n i d h = entry-at f 0 n i d h ∙ ap f (zero-add i)
+
 pub entry-count : {A : Type 0} (f : ℕ → A) (k n : ℕ) → length (map f (upFrom k n)) ≡ n
 entry-count f k n = length-map (upFrom k n) f ∙ upFrom-length k n
 
@@ -44,10 +47,12 @@ module _ {A : Type 0} where
   flatten-append [] ms = refl
   flatten-append (l ∷ ls) ms = ap (λ r. l ++ r) (flatten-append ls ms) ∙ sym (append-assoc l (flatten ls) (flatten ms))
 
-  pub flatten-more : (f : ℕ → List A) (k n j : ℕ) → j ≡ k + n → flatten (map f (upFrom k (n + 1))) ≡ flatten (map f (upFrom k n)) ++ f j
+  pub flatten-snoc : (ls : List (List A)) (l : List A) → flatten (ls ++ (l ∷ [])) ≡ flatten ls ++ l
   unfolding flatten
-  flatten-more f k n j e =
-      ap flatten (map-more f k n j e) ∙ flatten-append (map f (upFrom k n)) (f j ∷ []) ∙ ap (λ l. flatten (map f (upFrom k n)) ++ l) (append-nil (f j))
+  flatten-snoc ls l = flatten-append ls (l ∷ []) ∙ ap (λ r. flatten ls ++ r) (append-nil l)
+
+  pub flatten-more : (f : ℕ → List A) (k n j : ℕ) → j ≡ k + n → flatten (map f (upFrom k (n + 1))) ≡ flatten (map f (upFrom k n)) ++ f j
+  flatten-more f k n j e = ap flatten (map-more f k n j e) ∙ flatten-snoc (map f (upFrom k n)) (f j)
 
   pub flatten-begun : (f : ℕ → List A) (k i n : ℕ) → i ≤ n → IsPrefix (flatten (map f (upFrom k i))) (flatten (map f (upFrom k n)))
   flatten-begun f k i n h =

@@ -2,7 +2,7 @@
 use Prim.Native.Nat.{ℕ}
 use mathlib.Core.Path.{_≡_, refl, sym, _∙_, subst}
 use mathlib.Core.Logic.{_↔_}
-use mathlib.Core.List.{List, [], _∷_, _++_, map, append-assoc, List·Memᴰ, Memᴰ·append-left}
+use mathlib.Core.List.{List, [], _∷_, _++_, map, map-append, append-assoc, List·Memᴰ, Memᴰ·append-left}
 use lib.ListN.{length, getD}
 use Rattle.theory.specs.Orders.{Order, Orderings, Rule, Query, rulesOf, sameOrder, Reach, given, Taken, Start, whole, After}
 use Rattle.theory.specs.Closure.{closure}
@@ -12,7 +12,7 @@ use Rattle.theory.proofs.ListLaws.{member-getD}
 use Rattle.theory.proofs.KeptLaws.{Cut, Within, PrefixClosed, cut-whole, reach-prefix, reach-cut}
 use Rattle.theory.proofs.CutTheorem.{kept-cut, start-kept}
 use Rattle.theory.proofs.StateLaws.{Alike, reach-more, reach-again, reach-none, marks-exactly, marks-canonical, In, take-exactly, state-exactly}
-use Rattle.theory.proofs.NodeLaws.{taken-snoc, map-snoc}
+use Rattle.theory.proofs.NodeLaws.{taken-snoc}
 
 -- a set that is closed under prefixes and that the cut leaves alone
 record Whole (cut : Order → Order) (X : Orderings) : Type 0 where
@@ -43,8 +43,8 @@ snoc-taken cut (qs ∷ rss) rs X o m = snoc-taken cut rss rs (Reach cut qs X) o 
 -- A granted take appends its set: the orderings are those that steps under it give from the orderings before.
 pub after-snoc : (q : Query) (p : Order) (ss : List ℕ) (s : ℕ) → Alike (After q p (ss ++ (s ∷ []))) (Reach whole (rulesOf q s) (After q p ss))
 after-snoc q p ss s o = (
-  λ m. snoc-taken whole (map (rulesOf q) ss) (rulesOf q s) (Start p) o (rw (map-snoc (rulesOf q) ss s) at m),
-  λ m. rw (map-snoc (rulesOf q) ss s) (taken-snoc whole (map (rulesOf q) ss) (rulesOf q s) (Start p) o m),
+  λ m. snoc-taken whole (map (rulesOf q) ss) (rulesOf q s) (Start p) o (rw (map-append (rulesOf q) ss (s ∷ [])) at m),
+  λ m. rw (map-append (rulesOf q) ss (s ∷ [])) (taken-snoc whole (map (rulesOf q) ss) (rulesOf q s) (Start p) o m),
 )
 
 -- A set taken again directly after itself adds no ordering, and neither does an empty set.

@@ -5,7 +5,8 @@ use native.Mathlib.Omega.{arith}
 use mathlib.Core.Path.{_≡_, refl, sym, _∙_, ap, ap₂, subst}
 use mathlib.Core.Logic.{⊎-elim}
 use mathlib.Core.Bool.{Bool, true, false}
-use mathlib.Core.List.{List, [], _∷_, _++_, map, append-assoc, List·Memᴰ, List·Memᴰ·head, List·Memᴰ·tail, List·Memᴰ·cases-cons, List·Memᴰ·append-cases, flatten}
+use mathlib.Core.List.{List, [], _∷_, _++_, map, append-nil, append-assoc, List·Memᴰ, List·Memᴰ·head, List·Memᴰ·tail, List·Memᴰ·cases-cons, List·Memᴰ·append-cases, List·Memᴰ·eq-of-singleton, flatten}
+use lib.Dec.{eqb}
 use lib.ListN.{length, take, drop, getD, length-append}
 use lib.Pow.{pow-mono}
 use lib.Seq.{take-at, drop-append-add, getD-take, getD-drop}
@@ -40,6 +41,9 @@ module _ {A : Type 0} where
       → (y : A) → List·Memᴰ y (k ++ l) → P y
   all-append k g h y m = ⊎-elim (g y) (h y) (List·Memᴰ·append-cases k m)
 
+  pub all-snoc : {P : A → Type 0} (l : List A) {x : A} → ((y : A) → List·Memᴰ y l → P y) → P x → (y : A) → List·Memᴰ y (l ++ (x ∷ [])) → P y
+  all-snoc {P} l h p = all-append l h (λ y m. subst P (sym (List·Memᴰ·eq-of-singleton m)) p)
+
   -- what holds of the entries of each row holds of them end to end
   pub all-flatten : {P : A → Type 0} (rows : List (List A)) → ((r : List A) → List·Memᴰ r rows → (y : A) → List·Memᴰ y r → P y)
       → (y : A) → List·Memᴰ y (flatten rows) → P y
@@ -66,15 +70,24 @@ module _ (w : ℕ) where
       let e : length r ≡ w = h r (List·Memᴰ·head refl) in
       rw (suc-mul, append-assoc, add-comm, ← e, drop-append-add, e) (row-of-flatten rows back i (λ s m. h s (List·Memᴰ·tail m)) (le-of-suc-le-suc l))
 
+  -- entry s of row i, read from the rows end to end
+  pub entry-of-flatten : (rows : List (List ℕ)) (i s : ℕ) → Wide rows → i < length rows → s < w → getD (flatten rows) (i * w + s) 0 ≡ getD (getD rows i []) s 0
+  entry-of-flatten rows i s h l k =
+      sym (getD-take w (drop (i * w) (flatten rows)) s 0 k ∙ getD-drop (i * w) (flatten rows) s 0) ∙ ap (λ r. getD r s 0) (rw append-nil at (row-of-flatten rows [] i h l))
+
   -- row i, read where the rows begin at base, with anything before and behind them
   pub row-of-rows : (base : ℕ) (front : List ℕ) (rows : List (List ℕ)) (back : List ℕ) (i : ℕ) → Wide rows → length front ≡ base → i < length rows
       → rowAt base w i (front ++ (flatten rows ++ back)) ≡ getD rows i []
   row-of-rows base front rows back i h e l = rw (← e, drop-append-add) (row-of-flatten rows back i h l)
 
--- a bit is 0 or 1
-bit-below : (b : Bool) → bit b < 2
+-- a bit is 0 or 1, and tested for 1 it is the Boolean that it came from
+pub bit-below : (b : Bool) → bit b < 2
 bit-below true = omega arith
 bit-below false = omega arith
+
+pub eqb-bit : (b : Bool) → eqb (bit b) 1 ≡ b
+eqb-bit true = refl
+eqb-bit false = refl
 
 -- bit k of a number is entry k of the bits that it was made from
 pub number-bit : (bs : List Bool) (k : ℕ) → number bs / 2 ^ k % 2 ≡ bit (getD bs k false)

@@ -1,17 +1,20 @@
 -- A state's marked nodes are exactly the orderings that the construction has there.
-use Prim.Native.Nat.{ℕ, _≤_}
-use native.Mathlib.Nat.{le-refl}
+use Prim.Native.Nat.{ℕ, zero, suc, _<_, _≤_, suc-le-suc}
+use native.Mathlib.Nat.{le-refl, not-suc-le-zero, le-of-suc-le-suc}
+use native.Mathlib.Omega.{arith}
 use mathlib.Core.Path.{_≡_, refl, sym, _∙_, ap, ap₂, subst}
 use mathlib.Core.Bool.{Bool, true, false, false≢true}
-use mathlib.Core.Logic.{_⊎_, inl, inr, ⊎-elim, _↔_}
+use mathlib.Core.Logic.{⊎-elim, _↔_}
 use mathlib.Core.List.{List, [], _∷_, _++_, map, append-nil, List·Memᴰ, List·Memᴰ·head, List·Memᴰ·tail, List·Memᴰ·not-nil, List·Memᴰ·cases-cons, List·Memᴰ·eq-of-singleton, Memᴰ·cast, Memᴰ·map, Memᴰ·of-map, tail-eq-of-cons-eq, head-eq-of-cons-eq, cons≢nil}
-use lib.ListN.{length}
+use lib.ListN.{length, getD}
 use Rattle.theory.specs.Tests.{Says, member}
 use Rattle.theory.specs.Orders.{Order, Orderings, Rule, Query, interesting, rulesOf, Change, shorten, insert, behind, before, instead, at, Reach, given, step, Taken, Start, sameOrder, After}
 use Rattle.theory.specs.Closure.{Found, first, next, closure}
 use Rattle.theory.specs.Machine.{runs}
 use Rattle.theory.specs.Construction.{kept, keptSteps, KeptAfter, Node, Marks, marks, marked, prefixes, startState, takeSet, holdsIn, construction}
 use Rattle.theory.proofs.Reflect.{says-as, says-one, says-true, true-says, says-member, decides-order}
+use Rattle.theory.proofs.ListLaws.{member-getD, getD-member}
+use Rattle.theory.proofs.RowLaws.{getD-map}
 use Rattle.theory.proofs.ClosureLaws.{closure-found, closure-complete, closure-few}
 use Rattle.theory.proofs.KeptLaws.{Within, PrefixClosed}
 use Rattle.theory.proofs.CutTheorem.{cut-theorem}
@@ -48,34 +51,36 @@ reach-none {cut} {X} closed own _ (step p (at q {s} {t} c)) =
     subst X (sym (own (q ++ t) shorter)) shorter
 
 -- the marked entries are those at which the mark is set
-marked-by : (f : Order → Bool) (ns : List Order) (o : Order) → List·Memᴰ o (marked (map f ns) ns) → List·Memᴰ o ns × (f o ≡ true)
-marked-by f [] o m = absurd (List·Memᴰ·not-nil m)
-marked-by f (n ∷ ns) o m = go (f n) refl (λ k. let t = marked-by f ns o k in (List·Memᴰ·tail (t .0), t .1)) m
-  where
-    go : (b : Bool) → f n ≡ b → (List·Memᴰ o (marked (map f ns) ns) → List·Memᴰ o (n ∷ ns) × (f o ≡ true)) → List·Memᴰ o (marked (b ∷ map f ns) (n ∷ ns)) → List·Memᴰ o (n ∷ ns) × (f o ≡ true)
-    go true e rest k = ⊎-elim (λ h. (List·Memᴰ·head h, ap f h ∙ e)) rest (List·Memᴰ·cases-cons k)
-    go false e rest k = rest k
+pub at-marked : (ms : Marks) (ns : List Order) (o : Order) → List·Memᴰ o (marked ms ns) → (i : ℕ) × (i < length ns) × (getD ms i false ≡ true) × (getD ns i [] ≡ o)
+at-marked [] ns o m = absurd (List·Memᴰ·not-nil m)
+at-marked (b ∷ ms) [] o m = absurd (List·Memᴰ·not-nil m)
+at-marked (true ∷ ms) (n ∷ ns) o m =
+    ⊎-elim (λ e. (zero, omega arith, refl, sym e)) (λ k. let t = at-marked ms ns o k in (suc (t .0), suc-le-suc (t .1), t .2, t .3)) (List·Memᴰ·cases-cons m)
+at-marked (false ∷ ms) (n ∷ ns) o m = let t = at-marked ms ns o m in (suc (t .0), suc-le-suc (t .1), t .2, t .3)
 
-by-marked : (f : Order → Bool) (ns : List Order) (o : Order) → List·Memᴰ o ns → f o ≡ true → List·Memᴰ o (marked (map f ns) ns)
-by-marked f [] o m e = absurd (List·Memᴰ·not-nil m)
-by-marked f (n ∷ ns) o m e = go (f n) refl (λ k. by-marked f ns o k e) (List·Memᴰ·cases-cons m)
-  where
-    go : (b : Bool) → f n ≡ b → (List·Memᴰ o ns → List·Memᴰ o (marked (map f ns) ns)) → (o ≡ n) ⊎ List·Memᴰ o ns → List·Memᴰ o (marked (b ∷ map f ns) (n ∷ ns))
-    go true d rest (inl h) = List·Memᴰ·head h
-    go true d rest (inr k) = List·Memᴰ·tail (rest k)
-    go false d rest (inl h) = absurd (false≢true (sym d ∙ ap f (sym h) ∙ e))
-    go false d rest (inr k) = rest k
+pub marked-at : (ms : Marks) (ns : List Order) (i : ℕ) → i < length ns → getD ms i false ≡ true → List·Memᴰ (getD ns i []) (marked ms ns)
+marked-at [] ns i h e = absurd (false≢true e)
+marked-at (b ∷ ms) [] i h e = absurd (not-suc-le-zero h)
+marked-at (true ∷ ms) (n ∷ ns) zero h e = List·Memᴰ·head refl
+marked-at (false ∷ ms) (n ∷ ns) zero h e = absurd (false≢true e)
+marked-at (true ∷ ms) (n ∷ ns) (suc i) h e = List·Memᴰ·tail (marked-at ms ns i (le-of-suc-le-suc h) e)
+marked-at (false ∷ ms) (n ∷ ns) (suc i) h e = marked-at ms ns i (le-of-suc-le-suc h) e
 
 marked-within : (ms : Marks) (ns : List Order) (o : Order) → List·Memᴰ o (marked ms ns) → List·Memᴰ o ns
-marked-within [] ns o m = absurd (List·Memᴰ·not-nil m)
-marked-within (b ∷ ms) [] o m = absurd (List·Memᴰ·not-nil m)
-marked-within (true ∷ ms) (n ∷ ns) o m = ⊎-elim (λ e. List·Memᴰ·head e) (λ k. List·Memᴰ·tail (marked-within ms ns o k)) (List·Memᴰ·cases-cons m)
-marked-within (false ∷ ms) (n ∷ ns) o m = List·Memᴰ·tail (marked-within ms ns o m)
+marked-within ms ns o m = let t = at-marked ms ns o m in Memᴰ·cast (sym (t .3)) (member-getD ns (t .0) [] (t .1))
+
+marked-by : (f : Order → Bool) (ns : List Order) (o : Order) → List·Memᴰ o (marked (map f ns) ns) → f o ≡ true
+marked-by f ns o m = let t = at-marked (map f ns) ns o m in ap f (sym (t .3)) ∙ sym (getD-map f ns (t .0) false [] (t .1)) ∙ t .2
+
+by-marked : (f : Order → Bool) (ns : List Order) (o : Order) → List·Memᴰ o ns → f o ≡ true → List·Memᴰ o (marked (map f ns) ns)
+by-marked f ns o m e =
+    let t = getD-member [] m in
+    Memᴰ·cast (sym (t .2)) (marked-at (map f ns) ns (t .0) (t .1) (getD-map f ns (t .0) false [] (t .1) ∙ ap f (t .2) ∙ e))
 
 -- the marks of a list of orderings mark its nodes
 pub marks-exactly : (ns os : List Order) (o : Order) → List·Memᴰ o (marked (marks ns os) ns) ↔ (List·Memᴰ o ns × List·Memᴰ o os)
 marks-exactly ns os o = (
-  λ m. let t = marked-by (λ x. member sameOrder x os) ns o m in (t .0, says-true (says-member decides-order o os) (t .1)),
+  λ m. (marked-within (marks ns os) ns o m, says-true (says-member decides-order o os) (marked-by (λ x. member sameOrder x os) ns o m)),
   λ t. by-marked (λ x. member sameOrder x os) ns o (t .0) (true-says (says-member decides-order o os) (t .1)),
 )
 

@@ -15,7 +15,8 @@ use Rattle.theory.specs.Orders.{Order, Rule, fix, equal, Same, Change, s
 use Rattle.theory.specs.Construction.{replaceAt, behindAll, insertsFrom, replaces, equalResults, results, shorter, steps}
 use Rattle.theory.proofs.Reflect.{says-member, says-eqb, decides-number, true-says, false-says}
 use Rattle.theory.proofs.ListLaws.{member-drop, member-flatten-map, flatten-map-member, member-upFrom, upFrom-member}
-use Rattle.theory.proofs.PlaceLaws.{position-below, below-position, position-at, lefts-before, before-lefts, member-inserts, inserts-member, member-take}
+use Rattle.theory.proofs.PositionLaws.{position-below, below-position, position-splits}
+use Rattle.theory.proofs.PlaceLaws.{lefts-before, before-lefts, member-inserts, inserts-member, member-take}
 
 -- a step, from the equations of its two ends
 step-at : {rs : List Rule} {o r : Order} (p s t : Order) → p ++ s ≡ o → p ++ t ≡ r → Change rs p s t → Step rs o r
@@ -47,9 +48,9 @@ module _ {rs : List Rule} where
       put : List·Memᴰ a o → ¬ List·Memᴰ b o → (n : ℕ) → (position eqb a o ≡ n) ⊎ (position eqb a o < n) → n ≤ length o → Change rs (take n o) (drop n o) (b ∷ drop n o)
       put here out n (inl e) l =
           subst (λ k. Change rs (take k o) (drop k o) (b ∷ drop k o)) e
-          (rw (position-at a o here) (before s (λ k. out (member-take (position eqb a o) o k)) (λ k. out (member-drop (position eqb a o) o b (rw (position-at a o here) k)))))
+          (rw (position-splits decides-number a o here) (before s (λ k. out (member-take (position eqb a o) o k)) (λ k. out (member-drop (position eqb a o) o b (rw (position-splits decides-number a o here) k)))))
       put here out n (inr h) l =
-          behind s (below-position a n o h l) (λ k. out (member-take n o k)) (λ k. out (member-drop n o b k))
+          behind s (below-position decides-number a n o h l) (λ k. out (member-take n o k)) (λ k. out (member-drop n o b k))
 
       swap : ¬ List·Memᴰ b o → (n : ℕ) → n < length o → {d : Bool} → Says (getD o n 0 ≡ a) d → List·Memᴰ r (pick d (replaceAt n b o ∷ []) []) → Step rs o r
       swap out n h (holds e) m =
@@ -107,7 +108,7 @@ fix-member l c p s w out =
 position-seam : (a : ℕ) (p s : Order) → position eqb a (p ++ (a ∷ s)) ≤ length p
 position-seam a p s =
     let among : List·Memᴰ a (take (length p + 1) (p ++ (a ∷ s))) = rw take-append-add (Memᴰ·append-right p (List·Memᴰ·head refl)) in
-    omega (arith, position-below a (length p + 1) (p ++ (a ∷ s)) among)
+    omega (arith, position-below decides-number a (length p + 1) (p ++ (a ∷ s)) among)
 
 module _ (a b : ℕ) where
   -- b goes in behind a beginning that a's place is not past, or in the stead of a
@@ -142,7 +143,7 @@ module _ {rs : List Rule} where
   change-member {p} (shorten {x}) = Memᴰ·append-left (flatten (map (λ c. results c (p ++ (x ∷ []))) rs)) (shorter-member p x)
   change-member {p} (insert {l} {r} {s} m w f g) = rule-member (p ++ s) m (fix-member l r p s w (outside-both p s f g))
   change-member {p} (behind {a} {b} {s} e m f g) =
-      same-member (p ++ s) e (equal-insert-member a b p s (Memᴰ·append-left s m) (outside-both p s f g) (omega (arith, position-below a (length p) (p ++ s) (rw take-append-seam m))))
+      same-member (p ++ s) e (equal-insert-member a b p s (Memᴰ·append-left s m) (outside-both p s f g) (omega (arith, position-below decides-number a (length p) (p ++ s) (rw take-append-seam m))))
   change-member {p} (before {a} {b} {s} e f g) =
       same-member (p ++ (a ∷ s)) e (equal-insert-member a b p (a ∷ s) (Memᴰ·append-right p (List·Memᴰ·head refl)) (outside-both p (a ∷ s) f g) (position-seam a p s))
   change-member {p} (instead {a} {b} {s} e f g) = same-member (p ++ (a ∷ s)) e (equal-instead-member a b p s (outside-both p (a ∷ s) f g))

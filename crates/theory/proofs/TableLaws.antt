@@ -1,8 +1,8 @@
 -- A written table, read: its bytes are as many as the sizes imply and each below 256; the starts, the successors and the held bits are those that it was written from; the table check passes it; and reading it back gives the table.
 use Prim.Native.Nat.{ℕ, _+_, _*_, _^_, _<_, _≤_}
 use native.Mathlib.Omega.{arith}
-use mathlib.Core.Path.{_≡_, refl, sym, _∙_, ap}
-use mathlib.Core.Bool.{Bool, true, false}
+use mathlib.Core.Path.{_≡_, sym, _∙_, ap}
+use mathlib.Core.Bool.{Bool, false}
 use mathlib.Core.List.{List, [], _∷_, _++_, map, append-assoc, append-nil, List·Memᴰ, List·Memᴰ·not-nil, Memᴰ·of-map, flatten}
 use lib.Dec.{eqb}
 use lib.ListN.{length, take, drop, getD, length-append, length-take, length-drop, length-map, List·getD-append}
@@ -12,12 +12,7 @@ use Rattle.theory.specs.Refusals.{passed}
 use Rattle.theory.specs.Query.{Bytes, byteAt}
 use Rattle.theory.specs.Table.{Table, Sized, Numbered, bit, number, heldBytes, writeTable, tableLength, startIn, rowIn, successorIn, heldIn, heldBit, heldOrders, readTable, formRefusal, startsRefusal, successorsRefusal, heldRefusal, tableRefusal}
 use Rattle.theory.proofs.ListLaws.{member-getD}
-use Rattle.theory.proofs.RowLaws.{getD-map, entries, all-cons, all-append, all-flatten, flatten-length, row-of-rows, number-fits, number-split, held-bit, firstOf-passed}
-
--- a bit tested for 1 is the Boolean that it came from
-eqb-bit : (b : Bool) → eqb (bit b) 1 ≡ b
-eqb-bit true = refl
-eqb-bit false = refl
+use Rattle.theory.proofs.RowLaws.{getD-map, entries, all-cons, all-append, all-flatten, flatten-length, row-of-rows, eqb-bit, number-fits, number-split, held-bit, firstOf-passed}
 
 -- the parts of a written table: the sizes, the rows of held bytes, and all that is behind the starts
 module _ (t : Table) where

@@ -25,27 +25,34 @@ picked (fails n) m = absurd (List·Memᴰ·not-nil m)
 pick-self : (c : ℕ) {x : ℕ} {l : List ℕ} → List·Memᴰ x l → List·Memᴰ x (pick (eqb c c) l [])
 pick-self c m = rw (true-says (says-eqb c c) refl) m
 
+-- a set of columns has what a rule makes wanted, where it has the left columns with the right one, or each of two equal columns with the other
+module _ (P : ℕ → Type 0) where
+  pub fix-leads : (l : List ℕ) (r : ℕ) → (P r → (d : ℕ) → List·Memᴰ d l → P d) → (c d : ℕ) → P c → List·Memᴰ d (wantedBy c (fix l r)) → P d
+  fix-leads l r f c d p m = let t = picked (says-eqb c r) m in f (subst P (t .0) p) d (t .1)
+
+  pub equal-leads : (a b : ℕ) → (P a → P b) → (P b → P a) → (c d : ℕ) → P c → List·Memᴰ d (wantedBy c (equal a b)) → P d
+  equal-leads a b f g c d p m =
+      ⊎-elim (λ h. let t = picked (says-eqb c a) h in subst P (sym (List·Memᴰ·eq-of-singleton (t .1))) (f (subst P (t .0) p)))
+      (λ h. let t = picked (says-eqb c b) h in subst P (sym (List·Memᴰ·eq-of-singleton (t .1))) (g (subst P (t .0) p)))
+      (List·Memᴰ·append-cases (pick (eqb c a) (b ∷ []) []) m)
+
 module _ (q : Query) where
   -- the columns that the rules make wanted where c is
-  abbrev leads : ℕ → List ℕ
+  abbrev pub leads : ℕ → List ℕ
   leads c = flatten (map (wantedBy c) (allRules q))
 
   -- what a rule makes wanted is wanted
   by-wanted : (rule : Rule) {c d : ℕ} → List·Memᴰ rule (allRules q) → List·Memᴰ d (wantedBy c rule) → Wanted q c → Wanted q d
-  by-wanted (fix l r) {c} k m w = let t = picked (says-eqb c r) m in settles k (t .1) (subst (Wanted q) (t .0) w)
-  by-wanted (equal a b) {c} k m w =
-      ⊎-elim
-      (λ h. let t = picked (says-eqb c a) h in subst (Wanted q) (sym (List·Memᴰ·eq-of-singleton (t .1))) (equals′ k (subst (Wanted q) (t .0) w)))
-      (λ h. let t = picked (says-eqb c b) h in subst (Wanted q) (sym (List·Memᴰ·eq-of-singleton (t .1))) (equals k (subst (Wanted q) (t .0) w)))
-      (List·Memᴰ·append-cases (pick (eqb c a) (b ∷ []) []) m)
+  by-wanted (fix l r) {c} {d} k m w = fix-leads (Wanted q) l r (λ v e j. settles k j v) c d w m
+  by-wanted (equal a b) {c} {d} k m w = equal-leads (Wanted q) a b (equals′ k) (equals k) c d w m
 
   -- what is found from the columns of the interesting orders is wanted
-  found-wanted : {c : ℕ} → Found leads (flatten (interesting q)) c → Wanted q c
+  pub found-wanted : {c : ℕ} → Found leads (flatten (interesting q)) c → Wanted q c
   found-wanted (first m) = let t = member-flatten (interesting q) m in asked (t .1) (t .2)
   found-wanted (next {x} f m) = let t = member-flatten-map (wantedBy x) (allRules q) m in by-wanted (t .0) (t .1) (t .2) (found-wanted f)
 
   -- and what is wanted is found
-  wanted-found : {c : ℕ} → Wanted q c → Found leads (flatten (interesting q)) c
+  pub wanted-found : {c : ℕ} → Wanted q c → Found leads (flatten (interesting q)) c
   wanted-found (asked k m) = first (flatten-member k m)
   wanted-found (settles {r} k m w) = next (wanted-found w) (flatten-map-member (wantedBy r) k (pick-self r m))
   wanted-found (equals {a} {b} k w) =
@@ -54,7 +61,7 @@ module _ (q : Query) where
       next (wanted-found w) (flatten-map-member (wantedBy a) k (Memᴰ·append-left (pick (eqb a b) (a ∷ []) []) (pick-self a (List·Memᴰ·head refl))))
 
   -- a wanted column is one that the query names
-  wanted-named : {c : ℕ} → Wanted q c → List·Memᴰ c (named q)
+  pub wanted-named : {c : ℕ} → Wanted q c → List·Memᴰ c (named q)
   wanted-named (asked k m) = Memᴰ·append-left (flatten (map columnsOf (allRules q))) (flatten-member k m)
   wanted-named (settles k m w) = Memᴰ·append-right (flatten (interesting q)) (flatten-map-member columnsOf k (List·Memᴰ·tail m))
   wanted-named (equals k w) = Memᴰ·append-right (flatten (interesting q)) (flatten-map-member columnsOf k (List·Memᴰ·head refl))

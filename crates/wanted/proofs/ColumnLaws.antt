@@ -1,23 +1,24 @@
 -- The wanted columns of a query from its items: the columns asked for, the rules until nothing is added, and the longest order.
-use Prim.Native.Nat.{ℕ, zero, suc, _+_, _/_, _%_, _^_, _<_, _≤_, max}
-use native.Mathlib.Nat.{zero-div, not-suc-le-zero, le-of-suc-le-suc}
+use Prim.Native.Nat.{ℕ, _+_, _/_, _%_, _^_, _<_, _≤_, max}
+use native.Mathlib.Nat.{zero-div}
 use native.Mathlib.Numerals.{add-one}
 use native.Mathlib.Omega.{arith}
 use mathlib.Core.Path.{_≡_, refl, sym, _∙_, ap}
 use mathlib.Core.Bool.{true, true≢false}
 use mathlib.Core.Logic.{⊎-elim}
-use mathlib.Core.List.{List, [], _∷_, _++_, map, append-nil, append-assoc, List·Memᴰ, List·Memᴰ·head, Memᴰ·append-left, Memᴰ·append-right, flatten}
-use lib.Dec.{eqb}
+use mathlib.Core.List.{[], map, List·Memᴰ, flatten}
 use lib.ListN.{length, take, drop, getD, length-map, drop-of-length-le, List·getD-map}
-use lib.Seq.{take-suc, drop-cons}
-use borrow.Author.Tests.{eqb-true, eq-eqb}
-use Rattle.theory.specs.Tests.{pick, largest}
-use Rattle.theory.specs.Orders.{Dependency, fix, equal, interesting, allRules}
-use Rattle.theory.specs.Construction.{Wanted, asked, settles, equals, equals′, columnsOf, isWanted, longest}
+use lib.Seq.{drop-cons}
+use borrow.Author.Tests.{eqb-true}
+use Rattle.theory.specs.Tests.{largest}
+use Rattle.theory.specs.Orders.{Dependency, equal, interesting, allRules}
+use Rattle.theory.specs.Closure.{Found, first, next}
+use Rattle.theory.specs.Construction.{wantedBy, columnsOf, isWanted, longest}
 use Rattle.theory.specs.Query.{Bytes, orderCount, dependencyCount, orderAt, dependencyAt, readQuery}
 use Rattle.theory.proofs.Reflect.{says-one, says-by}
-use Rattle.theory.proofs.ListLaws.{member-getD, member-flatten, flatten-member}
-use Rattle.theory.proofs.WantedLaws.{says-wanted}
+use Rattle.theory.proofs.ListLaws.{member-getD, member-flatten, member-flatten-map}
+use Rattle.theory.proofs.RangeLaws.{take-more, flatten-snoc}
+use Rattle.theory.proofs.WantedLaws.{leads, found-wanted, wanted-found, says-wanted}
 use Rattle.orders.specs.Orders.{inMask}
 use Rattle.query.specs.Passed.{Passed}
 use Rattle.query.proofs.ReadLaws.{interesting-at, interesting-count, dependency-at, dependency-count, order-columns}
@@ -25,18 +26,11 @@ use Rattle.wanted.specs.Columns.{Sound, Narrow, With, Widened, Used}
 use Rattle.wanted.proofs.MaskLaws.{with-more}
 use Rattle.wanted.proofs.RuleLaws.{used-more}
 
-flatten-suc : (ls : List (List ℕ)) (i : ℕ) → i < length ls → flatten (take (suc i) ls) ≡ flatten (take i ls) ++ getD ls i []
-unfolding flatten
-flatten-suc [] i h = absurd (not-suc-le-zero h)
-flatten-suc (l ∷ ls) zero h = append-nil l
-flatten-suc (l ∷ ls) (suc i) h =
-    ap (λ k. l ++ k) (flatten-suc ls i (le-of-suc-le-suc h)) ∙ sym (append-assoc l (flatten (take i ls)) (getD ls i []))
-
 -- the columns of the next interesting order
 pub asked-next : (b : Bytes) (i : ℕ) {m r s : ℕ} → i < orderCount b
     → With (flatten (take i (interesting (readQuery b)))) m r → With (orderAt b i) r s → With (flatten (take (i + 1) (interesting (readQuery b)))) m s
 asked-next b i h v w =
-    rw (add-one, flatten-suc (interesting (readQuery b)) i (omega (arith, interesting-count b)), interesting-at b i [] h) (with-more v w)
+    rw (take-more (interesting (readQuery b)) i [] (omega (arith, interesting-count b)), flatten-snoc, interesting-at b i [] h) (with-more v w)
 
 -- the mask has the columns of the interesting orders, and only wanted ones
 pub record Growing (b : Bytes) (m : ℕ) : Type 0 where
@@ -48,7 +42,7 @@ module _ (b : Bytes) where
   growing-start p w =
       record {
         sound = λ c h. ⊎-elim (λ e. let z : ⊥ = omega (arith, zero-div (2 ^ c), eqb-true (0 / 2 ^ c % 2) 1 e) in absurd z)
-            (λ k. let t = member-flatten (interesting (readQuery b)) (k .0) in asked (t .1) (t .2)) (w .only c h);
+            (λ k. found-wanted (readQuery b) (first (k .0))) (w .only c h);
         asks = λ c k.
             let t = member-flatten (interesting (readQuery b)) k in
             w .adds c k (omega (arith, order-columns b p (t .0) (t .1) .1 .below c (t .2), p .sized .few-columns));
@@ -59,16 +53,12 @@ module _ (b : Bytes) where
 
   -- where all rules add nothing, the mask has exactly the wanted columns
   module _ (m : ℕ) (g : Growing b m) (u : Used b (allRules (readQuery b)) m m) where
-    has-wanted : {c : ℕ} → Wanted (readQuery b) c → inMask m c ≡ true
-    has-wanted (asked k j) = g .asks _ (flatten-member k j)
-    has-wanted (settles {c} {r} {l} k j w) = u .closed refl (fix l r) k r c (has-wanted w) (rw (eq-eqb r r refl) j)
-    has-wanted (equals {a = x} {b = y} k w) =
-        u .closed refl (equal x y) k y x (has-wanted w) (Memᴰ·append-right (pick (eqb y x) (y ∷ []) []) (rw (eq-eqb y y refl) (List·Memᴰ·head refl)))
-    has-wanted (equals′ {a = x} {b = y} k w) =
-        u .closed refl (equal x y) k x y (has-wanted w) (Memᴰ·append-left {s = pick (eqb x x) (y ∷ []) []} (pick (eqb x y) (x ∷ []) []) (rw (eq-eqb x x refl) (List·Memᴰ·head refl)))
+    has-found : {c : ℕ} → Found (leads (readQuery b)) (flatten (interesting (readQuery b))) c → inMask m c ≡ true
+    has-found (first k) = g .asks _ k
+    has-found (next {x} f k) = let t = member-flatten-map (wantedBy x) (allRules (readQuery b)) k in u .closed refl (t .0) (t .1) x _ (has-found f) (t .2)
 
     pub growing-end : (c : ℕ) → inMask m c ≡ isWanted (readQuery b) c
-    growing-end c = says-one (says-by (inMask m c) (g .sound c) (λ e w. true≢false (sym (has-wanted w) ∙ e))) (says-wanted (readQuery b) c)
+    growing-end c = says-one (says-by (inMask m c) (g .sound c) (λ e w. true≢false (sym (has-found (wanted-found (readQuery b) w)) ∙ e))) (says-wanted (readQuery b) c)
 
   -- the rules are those of the dependencies
   pub rule-count : length (allRules (readQuery b)) ≡ dependencyCount b
@@ -84,7 +74,7 @@ module _ (b : Bytes) where
         → Used b (take (i + 1) (allRules (readQuery b))) m s
     used-next v w =
         let there : i < length (allRules (readQuery b)) = omega (arith, rule-count) in
-        rw (add-one, take-suc (allRules (readQuery b)) i (equal 0 0) there) (used-more (member-getD (allRules (readQuery b)) i (equal 0 0) there) v (rw rule-at w))
+        rw (take-more (allRules (readQuery b)) i (equal 0 0) there) (used-more (member-getD (allRules (readQuery b)) i (equal 0 0) there) v (rw rule-at w))
 
     -- a mask has room for a dependency's columns
     pub dependency-narrow : Passed b → Narrow (columnsOf (dependencyAt b (orderCount b + i) .rule))

@@ -2,15 +2,14 @@
 use Prim.Native.Nat.{ℕ}
 use native.Mathlib.Omega.{arith}
 use mathlib.Core.Path.{_≡_, refl, sym, _∙_, subst}
-use mathlib.Core.Bool.{Bool, true, false, true≢false}
+use mathlib.Core.Bool.{true, false, true≢false}
 use mathlib.Core.Logic.{inl, inr, ⊎-elim}
-use mathlib.Core.List.{List, [], _∷_, _++_, List·Memᴰ, List·Memᴰ·head, List·Memᴰ·not-nil, List·Memᴰ·eq-of-singleton, List·Memᴰ·append-cases}
-use lib.Dec.{eqb}
-use Rattle.theory.specs.Tests.{pick, Says, holds, fails}
+use mathlib.Core.List.{List, [], _∷_, _++_, List·Memᴰ, List·Memᴰ·head, List·Memᴰ·not-nil, List·Memᴰ·eq-of-singleton}
 use Rattle.theory.specs.Orders.{Rule, fix, equal, allRules}
 use Rattle.theory.specs.Construction.{Wanted, settles, equals, equals′}
 use Rattle.theory.specs.Query.{Bytes, readQuery}
-use Rattle.theory.proofs.Reflect.{says-eqb}
+use Rattle.theory.proofs.RowLaws.{all-snoc}
+use Rattle.theory.proofs.WantedLaws.{fix-leads, equal-leads}
 use Rattle.orders.specs.Orders.{inMask}
 use Rattle.wanted.specs.Columns.{SoundFor, ClosedFor, Narrow, With, Led, Widened, Used}
 use Rattle.wanted.proofs.MaskLaws.{wider-same, wider-more}
@@ -28,27 +27,13 @@ pub led-no : (c : ℕ) (l : List ℕ) (m : ℕ) → inMask m c ≡ false → Led
 led-no c l m h =
     record { wider = wider-same m; only = λ d k. inl k; closed = λ e k d j. absurd (true≢false (sym k ∙ h)) }
 
--- what is in a list that stands only where a test passes
-picked : {P : Type 0} {t : Bool} {x : ℕ} {l : List ℕ} → Says P t → List·Memᴰ x (pick t l []) → P × List·Memᴰ x l
-picked (holds p) m = (p, m)
-picked (fails n) m = absurd (List·Memᴰ·not-nil m)
-
-fix-closed : (m r : ℕ) (l : List ℕ) → (inMask m r ≡ true → (d : ℕ) → List·Memᴰ d l → inMask m d ≡ true) → ClosedFor m (fix l r)
-fix-closed m r l f c d h k = let t = picked (says-eqb c r) k in f (rw (t .0) at h) d (t .1)
-
-equal-closed : (m a b : ℕ) → (inMask m a ≡ true → inMask m b ≡ true) → (inMask m b ≡ true → inMask m a ≡ true) → ClosedFor m (equal a b)
-equal-closed m a b f g c d h k =
-    ⊎-elim (λ i. let t = picked (says-eqb c a) i in let e : d ≡ b = List·Memᴰ·eq-of-singleton (t .1) in rw e (f (rw (t .0) at h)))
-    (λ i. let t = picked (says-eqb c b) i in let e : d ≡ a = List·Memᴰ·eq-of-singleton (t .1) in rw e (g (rw (t .0) at h)))
-    (List·Memᴰ·append-cases (pick (eqb c a) (b ∷ []) []) k)
-
 -- a fix: its right column leads to the left ones
 pub fix-led : {r : ℕ} {l : List ℕ} {m s : ℕ} → Led r l m s → Widened (fix l r) m s
 fix-led {r} {l} {m} v =
     record {
       wider = v .wider;
       sound = λ q k w c h. ⊎-elim (λ i. w c i) (λ t. settles k (t .1) (w r (t .0))) (v .only c h);
-      closed = λ e. fix-closed m r l (v .closed e);
+      closed = λ e. fix-leads (λ c. inMask m c ≡ true) l r (v .closed e);
     }
 
 -- an equal: each column leads to the other
@@ -62,7 +47,7 @@ equal-led {a} {b} {m} {r} {s} v w =
           ⊎-elim (λ i. first c i) (λ p. subst (Wanted q) (sym (List·Memᴰ·eq-of-singleton (p .1))) (equals′ k (first a (p .0)))) (w .only c h);
       closed = λ e.
           let same : r ≡ m = omega (arith, v .wider .more, w .wider .more) in
-          equal-closed m a b (λ h. rw same at (w .closed (e ∙ sym same) (v .wider .keeps a h) b (List·Memᴰ·head refl)))
+          equal-leads (λ c. inMask m c ≡ true) a b (λ h. rw same at (w .closed (e ∙ sym same) (v .wider .keeps a h) b (List·Memᴰ·head refl)))
           (λ h. v .closed same h a (List·Memᴰ·head refl));
     }
 
@@ -75,9 +60,7 @@ used-more {b} {rules} {rule} {m} {r} {s} k v w =
     record {
       wider = wider-more (v .wider) (w .wider);
       sound = λ t. w .sound (readQuery b) k (v .sound t);
-      closed = λ e x j.
+      closed = λ e.
           let same : r ≡ m = omega (arith, v .wider .more, w .wider .more) in
-          ⊎-elim (λ i. v .closed same x i)
-          (λ i. subst (ClosedFor m) (sym (List·Memᴰ·eq-of-singleton i)) (subst (λ (y : ℕ). ClosedFor y rule) same (w .closed (e ∙ sym same))))
-          (List·Memᴰ·append-cases rules j);
+          all-snoc {P = λ x. ClosedFor m x} rules (v .closed same) (subst (λ (y : ℕ). ClosedFor y rule) same (w .closed (e ∙ sym same)));
     }

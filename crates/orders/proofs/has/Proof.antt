@@ -1,7 +1,8 @@
 -- `orders::has` meets its contract: c occurs where its place is in the order.
 use borrow.Author.Needs.{needs}
 use Rattle.orders.specs.Orders.{orderOf}
-use Rattle.orders.proofs.RunLaws.{position-member}
+use Rattle.theory.proofs.Reflect.{decides-number}
+use Rattle.theory.proofs.PositionLaws.{position-tells}
 use Rattle.orders.proofs.has.Statement.{statement}
 use Rattle.orders.proofs.has.Tie as tie
 
@@ -12,7 +13,7 @@ length-requires : tie.Need-length-requires
 length-requires c κs = search needs
 
 returns : tie.Need-returns
-returns c = let a = c .before .before .args in rw (c .before .position .ensures, c .length .ensures .0) (position-member (a .c) (orderOf (a .o)))
+returns c = let a = c .before .before .args in rw (c .before .position .ensures, c .length .ensures .0) (position-tells decides-number (a .c) (orderOf (a .o)))
 
 pub has-spec : {M : Type 1} → statement M
 has-spec = tie.close (tie.spec position-requires length-requires returns)

@@ -4,12 +4,13 @@ use native.Mathlib.Omega.{arith}
 use mathlib.Core.Path.{_≡_, _∙_}
 use borrow.Author.Needs.{needs}
 use Rattle.orders.specs.Orders.{orderOf}
-use Rattle.orders.proofs.RunLaws.{Unmet, met-none, unmet-more, unmet-end, unmet-found}
+use Rattle.theory.proofs.Reflect.{decides-number}
+use Rattle.theory.proofs.PositionLaws.{Unmet, unmet-none, unmet-more, unmet-end, unmet-found}
 use Rattle.orders.proofs.position.Statement.{statement}
 use Rattle.orders.proofs.position.Tie as tie
 
 abbrev Inv-loop : tie.InvT-loop
-Inv-loop o c n i₀ i = Unmet c (orderOf o) i
+Inv-loop o c n i₀ i = Unmet c (orderOf o) 0 i
 
 abbrev μ-loop : tie.MeasureT-loop
 μ-loop o c n i₀ i = n - i
@@ -18,14 +19,14 @@ length-requires : tie.Need-length-requires Inv-loop μ-loop
 length-requires c κs = search needs
 
 loop-holds : tie.Need-loop-holds Inv-loop μ-loop
-loop-holds c = met-none _ _ _
+loop-holds c = unmet-none decides-number _ _ _
 
 column-requires : tie.Need-column-requires Inv-loop μ-loop
 column-requires c κs = search needs
 
 returns : tie.Need-returns Inv-loop μ-loop
 returns c = let a = c .before .before .before .before .before .args in
-    unmet-found (a .c) (orderOf (a .o)) (c .before .before .before .loop .inv) (omega arith) (cc)
+    unmet-found decides-number (a .c) (orderOf (a .o)) 0 (c .before .before .before .loop .inv) (omega arith) (cc)
 
 add-i : tie.Need-add-i Inv-loop μ-loop
 add-i c = search needs
@@ -35,12 +36,12 @@ loop-less c = search needs
 
 loop-again : tie.Need-loop-again Inv-loop μ-loop
 loop-again c = let a = c .before .before .before .before .before .args in
-    unmet-more (a .c) (orderOf (a .o)) (c .before .before .before .loop .inv) (omega arith) (λ e. c .if1 .left (cc))
+    unmet-more decides-number (a .c) (orderOf (a .o)) 0 (c .before .before .before .loop .inv) (omega arith) (λ e. c .if1 .left (cc))
 
 returns-2 : tie.Need-returns-2 Inv-loop μ-loop
 returns-2 c = let a = c .before .before .before .args in
     let e : c .before .before .length .result ≡ c .before .loop .i = omega arith in
-    e ∙ unmet-end (a .c) (orderOf (a .o)) (c .before .loop .inv) (omega arith)
+    e ∙ unmet-end decides-number (a .c) (orderOf (a .o)) 0 (c .before .loop .inv) (omega arith)
 
 pub position-spec : {M : Type 1} → statement M
 position-spec =

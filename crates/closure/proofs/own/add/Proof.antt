@@ -1,5 +1,4 @@
 -- `closure::own::add` meets its contract: a dependency of another set adds nothing.
-use Prim.Native.Nat.{ℕ, _+_}
 use native.Mathlib.Omega.{arith}
 use native.Mathlib.Numerals.{add-one}
 use mathlib.Core.Path.{_≡_, refl, sym, ap}

@@ -7,7 +7,9 @@ use lib.ListN.{drop, length, length-take}
 use borrow.Author.Needs.{needs}
 use Rattle.theory.specs.Construction.{behindAll}
 use Rattle.orders.specs.Orders.{orderOf}
-use Rattle.derivation.proofs.TurnLaws.{position-within, behind-next, behind-end}
+use Rattle.theory.proofs.Reflect.{decides-number}
+use Rattle.theory.proofs.PositionLaws.{position-within}
+use Rattle.derivation.proofs.TurnLaws.{behind-next, behind-end}
 use Rattle.derivation.proofs.results.behind_all.Statement.{statement}
 use Rattle.derivation.proofs.results.behind_all.Tie as tie
 
@@ -30,7 +32,7 @@ position-requires : tie.Need-position-requires Inv-loop μ-loop
 position-requires c κs = search needs
 
 add-most : tie.Need-add-most Inv-loop μ-loop
-add-most c = let o = c .before .before .before .before .before .args .o in let four : length (o .columns) ≡ 4 = search needs in omega (arith, position-within (c .before .column .result) (orderOf o), length-take (o .len) (o .columns))
+add-most c = let o = c .before .before .before .before .before .args .o in let four : length (o .columns) ≡ 4 = search needs in omega (arith, position-within decides-number (c .before .column .result) (orderOf o), length-take (o .len) (o .columns))
 
 most-requires : tie.Need-most-requires Inv-loop μ-loop
 most-requires c κs = search needs
