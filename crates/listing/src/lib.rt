@@ -1,9 +1,8 @@
 // The listing of a table, written into a lent text.
-ghost use mathlib.Core.List.{_++_};
 ghost use Prim.Native.Nat.{_≤_};
 ghost use lib.ListN.{length};
 ghost use Rattle.theory.specs.Limits.{maxNodes};
-ghost use Rattle.theory.specs.Listing.{decimal, refusedLabel, lineEnd, tableListing};
+ghost use Rattle.theory.specs.Listing.{refusedLine, tableListing};
 ghost use Rattle.table.specs.Form.{Formed};
 ghost use Rattle.listing.specs.Text.{longestListing, longestRefusal, Printed};
 use lines::counts_line;
@@ -28,7 +27,7 @@ pub fn list(table: &[u8], nodes: usize, text: &mut [u8]) -> usize
 // The line of a refusal.
 pub fn refused(n: u8, text: &mut [u8]) -> usize
     requires { ⌜ longestRefusal ≤ length (now text) ⌝ }
-    ensures { λ r. ⌜ Printed (now (text .entry)) (refusedLabel ++ (decimal n ++ lineEnd)) (now (text .exit)) r ⌝ }
+    ensures { λ r. ⌜ Printed (now (text .entry)) (refusedLine n) (now (text .exit)) r ⌝ }
 {
     let at = word(text, 0, b"refused ");
     let end = number(text, at, n as usize);

@@ -5,9 +5,11 @@
 use libc::STDERR_FILENO;
 use libc::STDIN_FILENO;
 use libc::STDOUT_FILENO;
+use numbers::limits::LONGEST_LISTING;
+use numbers::limits::SCRATCH_LENGTH;
 ghost use Prim.Native.Nat.{_≤_};
 ghost use lib.ListN.{length};
-ghost use Rattle.query_listing.specs.Listed.{longestListing};
+ghost use Rattle.listing.specs.Text.{longestListing};
 ghost use Rattle.order_listing.specs.Input.{Within, Lists};
 
 // How many bytes of input there are, up to a buffer's length, or that a read failed.
@@ -40,14 +42,14 @@ fn answer(front: &[u8], text: &mut [u8]) -> usize
     requires { ⌜ longestListing ≤ length (now text) ⌝ }
     ensures { λ r. ⌜ Lists (now (front .entry)) (now (text .exit)) r ⌝ }
 {
-    let mut scratch = [0u8; 16384];
+    let mut scratch = [0u8; SCRATCH_LENGTH];
     let listed = query_listing::list(front, &mut scratch, text);
     listed.length
 }
 
 // Prints the listing, and says whether all of it was written.
 fn print(front: &[u8]) -> bool {
-    let mut text = [0u8; 7557];
+    let mut text = [0u8; LONGEST_LISTING];
     let length = answer(front, &mut text);
     io::write_all(STDOUT_FILENO, &text[..length])
 }

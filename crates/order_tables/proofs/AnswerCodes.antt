@@ -11,7 +11,7 @@ use Rattle.theory.specs.Query.{Bytes}
 use Rattle.theory.specs.Build.{Outcome, refused, built, outcome}
 use Rattle.theory.proofs.DemandThree.{built-facts}
 use Rattle.table.proofs.FormLaws.{formed-short}
-use Rattle.builder.specs.declared.construct.Built.{Built}
+use Rattle.builder.specs.declared.Built.{Built}
 use Rattle.builder.specs.Built.{answerOf}
 use Rattle.builder.proofs.AnswerLaws.{built-formed}
 use Rattle.theory.specs.Listing.{listing}

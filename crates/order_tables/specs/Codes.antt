@@ -4,6 +4,7 @@ use mathlib.Core.List.{List, [], _∷_, _++_}
 use lib.Dec.{eqb}
 use lib.ListN.{length, getD}
 use Rattle.theory.specs.Tests.{pick}
+use Rattle.theory.specs.Limits.{equalKind}
 use Rattle.theory.specs.Orders.{Order, Rule, fix, equal, Dependency}
 use Rattle.theory.specs.Refusals.{passed}
 use Rattle.theory.specs.Query.{Bytes}
@@ -11,7 +12,7 @@ use Rattle.theory.specs.Build.{Outcome, refused, built}
 use Rattle.theory.specs.Listing.{listing}
 use Rattle.query_listing.specs.Listed.{answerOf, listRefusal}
 use Rattle.theory.specs.Table.{refuse, setsIn, successorsBase, rowRefusal}
-use Rattle.lookup.specs.Answers.{answerCode}
+use Rattle.lookup.specs.Answers.{refusalUnit, answerCode}
 
 -- A refusal, or none: its number, with the value 0.
 abbrev pub refusedCode : ℕ → ℕ
@@ -24,7 +25,7 @@ buildCode (built t n) = length t
 
 -- A listing's: its length, or the refusal.
 abbrev pub listCode : Bytes → ℕ → ℕ → ℕ
-listCode query scratch text = let a = answerOf (listing query) (listRefusal query scratch text) in a .refusal * 65536 + a .length
+listCode query scratch text = let a = answerOf (listing query) (listRefusal query scratch text) in a .refusal * refusalUnit + a .length
 
 -- A row's answer: its offset in the table, or the refusal.
 unfoldable pub rowCode : Bytes → ℕ → ℕ
@@ -41,7 +42,7 @@ orderCode o = length o + 256 * columnsCode o
 -- A rule's kind, and its columns: of a fix the left ones, then the right one.
 abbrev pub kindCode : Rule → ℕ
 kindCode (fix l r) = length l
-kindCode (equal a b) = 4
+kindCode (equal a b) = equalKind
 
 abbrev pub ruleColumns : Rule → List ℕ
 ruleColumns (fix l r) = l ++ (r ∷ [])

@@ -2,6 +2,11 @@
 use lookup::Asked;
 use lookup::Mark;
 use lookup::codes;
+use numbers::limits::BODY_WIDTH;
+use numbers::limits::EQUAL_KIND;
+use numbers::limits::REFUSAL_UNIT;
+use numbers::limits::TABLE_SIZES;
+use numbers::refusals::PASSED;
 use orders::Order;
 use orders::Rule;
 use table::OrderHandle;
@@ -9,16 +14,16 @@ use table::SetHandle;
 use table::StateNumber;
 ghost use mathlib.Core.Path.{_≡_};
 ghost use Prim.Native.Nat.{_+_, _*_, _<_, _≤_, min};
+ghost use Rattle.theory.specs.Limits.{bodyWidth, equalKind, tableSizes};
 ghost use Rattle.theory.specs.Query.{queryRefusal, orderCount, orderAt, dependencyAt};
 ghost use Rattle.theory.specs.Table.{tableRefusal, enter, takeIn, ask};
 ghost use Rattle.theory.specs.Build.{outcome, outputAfter, scratchAfter};
 ghost use lib.ListN.{length};
 ghost use Rattle.orders.specs.Orders.{orderOf, ruleIs};
-ghost use Rattle.lookup.specs.Answers.{heldOf, answerCode};
+ghost use Rattle.lookup.specs.Answers.{heldOf, refusalUnit, answerCode};
 ghost use Rattle.theory.specs.Listing.{listing};
 ghost use Rattle.replay.specs.Replay.{lookupsAfter, Modelled};
 ghost use Rattle.query_listing.specs.Listed.{listRefusal, textAfter};
-ghost use Rattle.query_listing.specs.Listed as listed;
 ghost use Rattle.order_tables.specs.Codes.{refusedCode, buildCode, listCode, rowCode, columnsCode, orderCode, kindCode, ruleColumns, dependencyCode};
 
 // An ask: 1 held, 0 not held, or the refusal.
@@ -34,10 +39,10 @@ fn asked(answer: Asked) -> u32
 
 // A refusal and a value as one number.
 fn coded(refusal: u8, value: usize) -> u32
-    requires { ⌜ value < 65536 ⌝ }
-    ensures { λ r. ⌜ r ≡ refusal * 65536 + value ⌝ }
+    requires { ⌜ value < refusalUnit ⌝ }
+    ensures { λ r. ⌜ r ≡ refusal * refusalUnit + value ⌝ }
 {
-    refusal as u32 * 65536 + value as u32
+    refusal as u32 * REFUSAL_UNIT + value as u32
 }
 
 // Build a query's table: its length.
@@ -65,8 +70,8 @@ pub extern "C" fn order_table_replay(
     ensures { λ r. ⌜ now (lookups .exit) ≡ lookupsAfter (outcome (now (query .entry)) (length (now (scratch .entry))) (length (now (output .entry)))) (now (lookups .entry)) ⌝ }
     ensures { λ r. ⌜ Modelled (now (query .entry)) (length (now (scratch .entry))) (length (now (output .entry))) (now (lookups .entry)) (now (lookups .exit)) ⌝ }
 {
-    let built = replay::replay(query, scratch, output, lookups);
-    coded(built.refusal, built.length)
+    let replayed = replay::replay(query, scratch, output, lookups);
+    coded(replayed.refusal, replayed.length)
 }
 
 // List a query: the listing's length.
@@ -74,7 +79,7 @@ pub extern "C" fn order_table_replay(
 pub extern "C" fn order_table_list(query: &[u8], scratch: &mut [u8], text: &mut [u8]) -> u32
     ensures { λ r. ⌜ r ≡ listCode (now (query .entry)) (length (now (scratch .entry))) (length (now (text .entry))) ⌝ }
     ensures { λ r. ⌜ now (text .exit) ≡ textAfter (listing (now (query .entry))) (listRefusal (now (query .entry)) (length (now (scratch .entry))) (length (now (text .entry)))) (now (text .entry)) ⌝ }
-    ensures { λ r. ⌜ now (scratch .exit) ≡ listed.scratchAfter (now (scratch .entry)) ⌝ }
+    ensures { λ r. ⌜ now (scratch .exit) ≡ scratchAfter (now (query .entry)) (now (scratch .entry)) ⌝ }
 {
     let listed = query_listing::list(query, scratch, text);
     coded(listed.refusal, listed.length)
@@ -118,9 +123,9 @@ pub extern "C" fn order_table_ask(table: &[u8], state: u8, order: u8) -> u32
 // Where a state's row begins, from sizes that are bytes.
 fn offset(produced: usize, state: usize, sets: usize) -> u32
     requires { ⌜ (produced < 256) × (state < 256) × (sets < 256) ⌝ }
-    ensures { λ r. ⌜ r ≡ 4 + produced + state * sets ⌝ }
+    ensures { λ r. ⌜ r ≡ tableSizes + produced + state * sets ⌝ }
 {
-    (4 + produced + state * sets) as u32
+    (TABLE_SIZES + produced + state * sets) as u32
 }
 
 // A state's successor row: its offset in the table.
@@ -130,13 +135,13 @@ pub extern "C" fn order_table_row(table: &[u8], state: u8) -> u32
 {
     let mut refusal: u8 = 0;
     lookup::row_of(table, StateNumber(state), &mut refusal);
-    if refusal != table::PASSED {
+    if refusal != PASSED {
         return codes::refused(refusal);
     }
     offset(table::produced(table), state as usize, table::sets(table))
 }
 
-// The query's own checks.
+// Checks 1 to 6 of a query.
 #[no_mangle]
 pub extern "C" fn order_query_check(query: &[u8]) -> u32
     ensures { λ r. ⌜ r ≡ refusedCode (queryRefusal (now (query .entry))) ⌝ }
@@ -163,20 +168,24 @@ pub extern "C" fn order_query_order(query: &[u8], i: u8) -> u64
     orders::length(o) as u64 + 256 * columns(o)
 }
 
-// How many left columns a fix has: its count, at most 4.
+// How many left columns a fix has: its count, at most four.
 fn lefts(count: u8) -> u64
-    ensures { λ r. ⌜ r ≡ min count 4 ⌝ }
+    ensures { λ r. ⌜ r ≡ min count bodyWidth ⌝ }
 {
-    if count < 4 { count as u64 } else { 4 }
+    if (count as usize) < BODY_WIDTH {
+        count as u64
+    } else {
+        BODY_WIDTH as u64
+    }
 }
 
 // A rule's kind.
 fn kind(rule: Rule) -> u64
-    ensures { λ r. ⌜ (r ≡ kindCode (ruleIs rule)) × (r ≤ 4) ⌝ }
+    ensures { λ r. ⌜ (r ≡ kindCode (ruleIs rule)) × (r ≤ equalKind) ⌝ }
 {
     match rule {
         Rule::Fix { count, a, b, c, d } => lefts(count),
-        Rule::Equal { a, b } => 4,
+        Rule::Equal { a, b } => EQUAL_KIND as u64,
     }
 }
 

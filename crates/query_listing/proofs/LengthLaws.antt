@@ -1,5 +1,5 @@
 -- No table is longer than 1,292 bytes, so that a listing's build never runs out of room. No listing is longer than 7,557 bytes: the numbers in it have at
--- most three decimalWithin, and the held bits at most five.
+-- most three digits, and the held bits at most five.
 use Prim.Native.Nat.{ℕ, zero, suc, _+_, _*_, _/_, _≤_, _<_}
 use native.Mathlib.Nat.{suc-mul, mul-le-mul-right, le-trans}
 use native.Mathlib.Omega.{arith}
@@ -8,28 +8,28 @@ use mathlib.Core.Bool.{Bool, true, false}
 use mathlib.Core.List.{List, [], _∷_, _++_, map, List·Memᴰ, List·Memᴰ·head, List·Memᴰ·tail, flatten}
 use lib.Dec.{ltb}
 use lib.ListN.{length, length-append, length-take}
-use Rattle.theory.specs.Limits.{maxNodes, maxStates, scratchLength, longestTable}
+use Rattle.theory.specs.Limits.{scratchLength, longestTable}
 use Rattle.theory.specs.Tests.{pick, upFrom, Says, holds, fails}
 use Rattle.theory.specs.Query.{Bytes, readQuery, queryRefusal}
 use Rattle.theory.specs.Refusals.{passed}
-use Rattle.theory.specs.Closure.{More}
-use Rattle.theory.specs.Construction.{Node, State, nodes}
-use Rattle.theory.specs.Table.{statesIn, producedIn, setsIn, startIn, rowIn, heldNumber}
-use Rattle.theory.specs.Build.{Outcome, refused, built, tableBytes, outcome}
+use Rattle.theory.specs.Table.{Table, writeTable, statesIn, producedIn, setsIn, startIn, rowIn, heldNumber}
+use Rattle.theory.specs.Build.{Constructs, table, Outcome, refused, built, outcome}
 use Rattle.theory.specs.Listing.{decimalWithin, decimal, refusedLabel, statesLabel, nodesLabel, startLabel, stateLabel, nextLabel, heldLabel, lineEnd, spaced, countsLine, startLine, stateLine, tableListing, listed, listing}
 use Rattle.theory.specs.Lookups.{Faithful}
 use Rattle.theory.proofs.Reflect.{says-ltb}
 use Rattle.theory.proofs.ListLaws.{upFrom-length, member-upFrom, getD-member}
-use Rattle.theory.proofs.DemandThree.{Built, built-table, built-facts, built-faithful}
+use Rattle.theory.proofs.ConstructionLaws.{made}
+use Rattle.theory.proofs.DemandThree.{Built, built-facts, built-faithful}
 use Rattle.table.specs.Form.{Formed}
 use Rattle.table.proofs.FormLaws.{formed-short}
 use Rattle.builder.proofs.AnswerLaws.{built-formed}
-use Rattle.query_listing.specs.Listed.{longestListing}
+use Rattle.listing.specs.Text.{longestListing}
 
--- a query that passes its checks, with nodes and states within the limits, is not refused for the room of the longest table
-pub table-room : (query : Bytes) → queryRefusal query ≡ passed → ¬ More maxNodes (Node (readQuery query)) → ¬ More maxStates (State (readQuery query) (nodes (readQuery query))) →
-    length (tableBytes (readQuery query)) ≤ longestTable
-table-room query c k m = formed-short (built-formed (built-table query c k m))
+-- a constructed table is not refused for the room of the longest table
+pub table-room : (query : Bytes) {t : Table} {n : ℕ} → queryRefusal query ≡ passed → Constructs (readQuery query) (table t n) → length (writeTable t) ≤ longestTable
+table-room query {t} {n} c d =
+    let b : Built query (writeTable t) n = record { checked = c; contents = t; made = made (readQuery query) d; bytes-are = refl } in
+    formed-short (built-formed b)
 
 -- The bytes are at most so many.
 pub record Short (l : Bytes) (most : ℕ) : Type 0 where
@@ -51,7 +51,7 @@ pieces piece w (x ∷ l) h =
 some-pieces : {piece : ℕ → Bytes} {w : ℕ} (k : ℕ) (l : List ℕ) → ((x : ℕ) → List·Memᴰ x l → Short (piece x) w) → length l ≤ k → Short (flatten (map piece l)) (k * w)
 some-pieces {piece} {w} k l h m = record { short = le-trans (pieces piece w l h) (mul-le-mul-right w m) }
 
--- a number: at most as many decimalWithin as are counted, and at most j + 1 where it is below the power j + 1 of ten
+-- a number: at most as many digits as are counted, and at most j + 1 where it is below the power j + 1 of ten
 decimal-short : (k n : ℕ) → Short (decimalWithin k n) k
 decimal-short zero n = record { short = omega arith }
 decimal-short (suc k) n = record { short = rw length-append (go (ltb n 10) (decimal-short k (n / 10))) }
@@ -96,7 +96,7 @@ module _ {query t : Bytes} {n : ℕ} (b : Built query t n) where
   counts-short =
       joined (word statesLabel)
       (joined (number (statesIn t) (omega (arith, form .few-states)))
-      (joined (word nodesLabel) (joined (number n (omega (arith, b .count-is, b .few-nodes))) (word lineEnd))))
+      (joined (word nodesLabel) (joined (number n (omega (arith, b .made .count-is, b .made .within .few-nodes))) (word lineEnd))))
 
   start-short : (p : ℕ) → p < producedIn t → Short (startLine t p) 14
   unfolding startLine

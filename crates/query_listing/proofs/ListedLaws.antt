@@ -2,16 +2,17 @@
 use Prim.Native.Nat.{_≤_, _<_}
 use native.Mathlib.Nat.{zero-add}
 use mathlib.Core.Path.{_≡_, _∙_}
+use mathlib.Core.Logic.{_≢_}
 use mathlib.Core.List.{[]}
 use lib.ListN.{length}
 use lib.Seq.{paste, take-length}
-use borrow.Author.Tests.{lt-ltb, le-ltb}
+use borrow.Author.Tests.{lt-ltb, le-ltb, le-leb, lt-leb, eq-eqb, ne-eqb}
 use Rattle.theory.specs.Limits.{scratchLength}
-use Rattle.theory.specs.Refusals.{space-refused}
-use Rattle.theory.specs.Query.{Bytes}
-use Rattle.theory.specs.Build.{zeroed}
+use Rattle.theory.specs.Refusals.{passed, space-refused}
+use Rattle.theory.specs.Query.{Bytes, queryRefusal}
+use Rattle.theory.specs.Build.{scratchAfter, zeroed}
 use Rattle.theory.specs.Listing.{listing}
-use Rattle.query_listing.specs.Listed.{listRefusal, answerOf, textAfter, scratchAfter, Handed}
+use Rattle.query_listing.specs.Listed.{listRefusal, answerOf, textAfter, Handed}
 use Rattle.query_listing.specs.declared.Listed.{Listed}
 
 module _ (l text : Bytes) where
@@ -23,17 +24,28 @@ module _ (l text : Bytes) where
   unfolding textAfter
   text-whole h e = record { answer = rw (le-ltb (length text) (length l) h); text = rw (le-ltb (length text) (length l) h) (e ∙ rw (take-length l, zero-add)) }
 
--- the same of the whole call: 9 for scratch comes first
+-- the same of the whole call: checks 1 to 6, then 9 for scratch, then the listing in the scratch
 module _ (query scratch text : Bytes) where
   abbrev pub Whole : (scratch' text' : Bytes) → Listed → Type 0
   Whole scratch' text' r =
       (r ≡ answerOf (listing query) (listRefusal query (length scratch) (length text)))
-      × ((text' ≡ textAfter (listing query) (listRefusal query (length scratch) (length text)) text) × (scratch' ≡ scratchAfter scratch))
+      × ((text' ≡ textAfter (listing query) (listRefusal query (length scratch) (length text)) text) × (scratch' ≡ scratchAfter query scratch))
 
-  pub scratch-short : length scratch < scratchLength → {r : Listed} → r ≡ answerOf [] space-refused → Whole scratch text r
-  unfolding listRefusal textAfter scratchAfter
-  scratch-short h a = let e = lt-ltb (length scratch) scratchLength h in (rw e a, (rw e, rw e))
-
-  pub scratch-whole : {scratch' text' : Bytes} {r : Listed} → scratchLength ≤ length scratch → Handed (listing query) text text' r → scratch' ≡ zeroed scratchLength scratch → Whole scratch' text' r
+  pub query-refused : {text' : Bytes} {r : Listed} → queryRefusal query ≢ passed → Handed (listing query) text text' r → Whole scratch text' r
   unfolding listRefusal scratchAfter
-  scratch-whole h d z = let e = le-ltb (length scratch) scratchLength h in (rw e (d .answer), (rw e (d .text), rw e z))
+  query-refused h d = let e = ne-eqb (queryRefusal query) passed h in (rw (e, listRefusal) (d .answer), (rw (e, listRefusal) (d .text), rw (e, scratchAfter)))
+
+  module _ (c : queryRefusal query ≡ passed) where
+    pub scratch-short : length scratch < scratchLength → {r : Listed} → r ≡ answerOf [] space-refused → Whole scratch text r
+    unfolding listRefusal textAfter scratchAfter
+    scratch-short h a =
+        let e = eq-eqb (queryRefusal query) passed c in
+        let f = lt-ltb (length scratch) scratchLength h in
+        (rw (e, f, listRefusal) a, (rw (e, f, listRefusal), rw (e, lt-leb scratchLength (length scratch) h, scratchAfter)))
+
+    pub scratch-whole : {scratch' text' : Bytes} {r : Listed} → scratchLength ≤ length scratch → Handed (listing query) text text' r → scratch' ≡ zeroed scratchLength scratch → Whole scratch' text' r
+    unfolding listRefusal scratchAfter
+    scratch-whole h d z =
+        let e = eq-eqb (queryRefusal query) passed c in
+        let f = le-ltb (length scratch) scratchLength h in
+        (rw (e, f, listRefusal) (d .answer), (rw (e, f, listRefusal) (d .text), z ∙ rw (e, le-leb scratchLength (length scratch) h, scratchAfter)))

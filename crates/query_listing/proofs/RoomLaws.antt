@@ -3,21 +3,30 @@ use Prim.Native.Nat.{ℕ, _≤_}
 use native.Mathlib.Omega.{arith}
 use mathlib.Core.Path.{_≡_, refl, _∙_, ap, ap₂}
 use mathlib.Core.List.{_++_}
+use lib.Dec.{eqb}
 use lib.ListN.{length, take, drop, length-append}
 use lib.Seq.{take-at}
 use borrow.Author.Tests.{le-ltb}
+use mathlib.Core.Bool.{Bool, true, false, _&&_}
 use Rattle.theory.specs.Limits.{scratchLength}
-use Rattle.theory.specs.Query.{Bytes}
+use Rattle.theory.specs.Refusals.{passed}
+use Rattle.theory.specs.Query.{Bytes, queryRefusal}
 use Rattle.theory.specs.Listing.{listing}
-use Rattle.query_listing.specs.Listed.{longestListing, listRefusal, answerOf, textAfter, Listing}
+use Rattle.listing.specs.Text.{longestListing}
+use Rattle.query_listing.specs.Listed.{listRefusal, answerOf, textAfter, Listing}
 use Rattle.query_listing.specs.declared.Listed.{Listed}
 use Rattle.query_listing.proofs.LengthLaws.{listing-short}
+
+-- nothing and a failed test
+and-false : (b : Bool) → (b && false) ≡ false
+and-false true = refl
+and-false false = refl
 
 module _ (query text : Bytes) (n : ℕ) (s : scratchLength ≤ n) (t : longestListing ≤ length text) where
   -- no refusal comes, with n bytes of scratch
   room : listRefusal query n (length text) ≡ 0
   unfolding listRefusal
-  room = rw (le-ltb n scratchLength s, le-ltb (length text) (length (listing query)) (omega (arith, listing-short query)))
+  room = rw (le-ltb n scratchLength s, listRefusal, and-false (eqb (queryRefusal query) passed), le-ltb (length text) (length (listing query)) (omega (arith, listing-short query)))
 
   pub room-listed : {after : Bytes} {r : Listed} → r ≡ answerOf (listing query) (listRefusal query n (length text)) →
       after ≡ textAfter (listing query) (listRefusal query n (length text)) text → Listing (listing query) after (r .length)

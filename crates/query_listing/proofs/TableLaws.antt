@@ -5,24 +5,31 @@ use mathlib.Core.Path.{_≡_, refl, sym, _∙_, ap, ap₂, subst}
 use mathlib.Core.Logic.{_≢_}
 use mathlib.Core.List.{_++_}
 use lib.ListN.{length, take, drop, replicate, length-append}
-use lib.Seq.{take-at, length-paste}
+use lib.Seq.{take-at}
+use borrow.Author.Tests.{ne-eqb}
 use Rattle.theory.specs.Limits.{scratchLength, longestTable}
 use Rattle.theory.specs.Refusals.{passed}
-use Rattle.theory.specs.Query.{Bytes}
+use Rattle.theory.specs.Query.{Bytes, queryRefusal}
 use Rattle.theory.specs.Build.{Outcome, refused, built, outcome, written, outputAfter}
-use Rattle.theory.specs.Listing.{decimal, refusedLabel, lineEnd, tableListing, listed, listing}
+use Rattle.theory.specs.Listing.{refusedLine, tableListing, listed, listing}
 use Rattle.theory.proofs.DemandThree.{built-facts}
+use Rattle.byte_rows.proofs.PlacedLaws.{placed-length}
 use Rattle.table.specs.Form.{Formed}
 use Rattle.listing.specs.Text.{Printed}
 use Rattle.query_listing.specs.Listed.{Listing}
 use Rattle.builder.specs.Built.{answerOf}
 use Rattle.builder.proofs.AnswerLaws.{granted, built-formed}
-use Rattle.builder.specs.declared.construct.Built as answer
+use Rattle.builder.specs.declared.Built as answer
 
 -- the line of a refusal
-refused-line : (o : Outcome) → answerOf o .refusal ≢ passed → refusedLabel ++ (decimal (answerOf o .refusal) ++ lineEnd) ≡ listed o
+refused-line : (o : Outcome) → answerOf o .refusal ≢ passed → refusedLine (answerOf o .refusal) ≡ listed o
 refused-line (refused n) h = refl
 refused-line (built t n) h = absurd (h refl)
+
+-- the listing of a query that checks 1 to 6 refuse is its refusal's line
+pub unpassed-listing : (query : Bytes) → queryRefusal query ≢ passed → refusedLine (queryRefusal query) ≡ listing query
+unfolding listing outcome
+unpassed-listing query h = rw (ne-eqb (queryRefusal query) passed h, outcome)
 
 -- A table as the listing takes it: in its form, the nodes counted, and its listing is the query's.
 pub record Shown (query after : Bytes) (r : answer.Built) : Type 0 where
@@ -46,7 +53,7 @@ module _ (query work : Bytes) (w : length work ≡ scratchLength) {r : answer.Bu
   refusal-is = ap (λ (x : answer.Built). x .refusal) answer-is
 
   -- with a refusal, the listing is its line ..
-  pub refused-listing : r .refusal ≢ passed → refusedLabel ++ (decimal (r .refusal) ++ lineEnd) ≡ listing query
+  pub refused-listing : r .refusal ≢ passed → refusedLine (r .refusal) ≡ listing query
   unfolding listing
   refused-listing h = rw refusal-is (refused-line o (λ z. h (refusal-is ∙ z)))
 
@@ -64,7 +71,7 @@ module _ (query work : Bytes) (w : length work ≡ scratchLength) {r : answer.Bu
           let d : take (r .length) after ≡ t = ap₂ take (ap (λ (x : answer.Built). x .length) x) y ∙ take-at t (drop (length t) room) (length t) refl in
           record {
             form = subst Formed (sym d) (built-formed b);
-            few = omega (arith, b .few-nodes, b .count-is);
+            few = omega (arith, b .made .within .few-nodes, b .made .count-is);
             fits = rw (y, length-append) (omega (arith, ap (λ (x : answer.Built). x .length) x));
             same = ap₂ tableListing d k ∙ ap listed (sym e);
           }
@@ -72,5 +79,5 @@ module _ (query work : Bytes) (w : length work ≡ scratchLength) {r : answer.Bu
 -- What was printed is the listing, and the memory keeps its length.
 pub printed : {k l before after : Bytes} {n m : ℕ} → k ≡ l → length before ≡ m → Printed before k after n → Listing l after n × (length after ≡ m)
 printed {k} {before = before} {after = after} {m = m} e h p =
-    let s : length after ≡ length before = ap length (p .text) ∙ length-paste before 0 k (length k) (omega arith) (omega arith) in
+    let s : length after ≡ length before = ap length (p .text) ∙ placed-length 0 k before (omega arith) in
     (record { first = p .first ∙ e; counted = p .counted ∙ ap length e; fits = omega arith }, s ∙ h)

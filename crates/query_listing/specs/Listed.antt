@@ -1,28 +1,25 @@
 -- What listing a query answers and leaves in the lent buffers.
 use Prim.Native.Nat.{ℕ, _≤_}
 use mathlib.Core.Path.{_≡_}
+use mathlib.Core.Bool.{_&&_}
 use mathlib.Core.List.{_++_}
 use lib.Dec.{eqb, ltb}
 use lib.ListN.{length, take, drop}
 use Rattle.theory.specs.Limits.{scratchLength}
 use Rattle.theory.specs.Tests.{pick}
 use Rattle.theory.specs.Refusals.{passed, space-refused}
-use Rattle.theory.specs.Query.{Bytes}
-use Rattle.theory.specs.Build.{zeroed}
+use Rattle.theory.specs.Query.{Bytes, queryRefusal}
 use Rattle.theory.specs.Listing.{listing}
 use Rattle.query_listing.specs.declared.Listed.{Listed}
-
--- The longest listing: 21 bytes of counts, 8 starts of 14, and 128 states of 58, with three digits for each number and five for the held bits.
-abbrev pub longestListing : ℕ
-longestListing = 7557
 
 -- A text that is lent for a listing takes it whole, or the refusal is 9.
 abbrev pub textRefusal : Bytes → ℕ → ℕ
 textRefusal l textLength = pick (ltb textLength (length l)) space-refused passed
 
--- 9 for scratch, then 9 for the text.
+-- A query that checks 1 to 6 refuse has a listing of its own, the line of its refusal, whatever the scratch. For every other: 9 for scratch. Then 9 for the text.
 unfoldable pub listRefusal : Bytes → ℕ → ℕ → ℕ
-listRefusal query scratch textLength = pick (ltb scratch scratchLength) space-refused (textRefusal (listing query) textLength)
+listRefusal query scratch textLength =
+    pick (eqb (queryRefusal query) passed && ltb scratch scratchLength) space-refused (textRefusal (listing query) textLength)
 
 -- The answer for a listing: the refusal, or 0; and the listing's length, which is 0 on refusal.
 abbrev pub answerOf : Bytes → ℕ → Listed
@@ -42,7 +39,3 @@ pub record Listing (l memory : Bytes) (count : ℕ) : Type 0 where
 pub record Handed (l before after : Bytes) (r : Listed) : Type 0 where
   pub answer : r ≡ answerOf l (textRefusal l (length before))
   pub text : after ≡ textAfter l (textRefusal l (length before)) before
-
--- Once the scratch length has passed, the first 16,384 bytes of scratch are 0, refused or not, and the others keep theirs. Before that it is untouched.
-unfoldable pub scratchAfter : Bytes → Bytes
-scratchAfter scratch = pick (ltb (length scratch) scratchLength) scratch (zeroed scratchLength scratch)

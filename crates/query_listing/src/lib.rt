@@ -1,12 +1,16 @@
 // The listing of a query, written into a lent text.
+use numbers::limits::LONGEST_TABLE;
+use numbers::limits::SCRATCH_LENGTH;
+use numbers::refusals::PASSED;
+use numbers::refusals::SPACE;
 ghost use mathlib.Core.Path.{_≡_};
 ghost use mathlib.Core.List.{[]};
 ghost use lib.ListN.{length};
 ghost use Rattle.theory.specs.Limits.{scratchLength};
 ghost use Rattle.theory.specs.Refusals.{space-refused};
-ghost use Rattle.theory.specs.Build.{zeroed};
-ghost use Rattle.theory.specs.Listing.{listing};
-ghost use Rattle.query_listing.specs.Listed.{listRefusal, answerOf, textAfter, scratchAfter, Handed, Listing};
+ghost use Rattle.theory.specs.Build.{scratchAfter, zeroed};
+ghost use Rattle.theory.specs.Listing.{refusedLine, listing};
+ghost use Rattle.query_listing.specs.Listed.{listRefusal, answerOf, textAfter, Handed, Listing};
 
 // What a listing answers: the refusal, or 0; and the listing's length, which is 0 on refusal.
 pub struct Listed {
@@ -19,7 +23,7 @@ fn no_room() -> Listed
     ensures { λ r. ⌜ r ≡ answerOf [] space-refused ⌝ }
 {
     Listed {
-        refusal: 9,
+        refusal: SPACE,
         length: 0,
     }
 }
@@ -29,10 +33,10 @@ fn write_listing(query: &[u8], work: &mut [u8]) -> usize
     requires { ⌜ length (now work) ≡ scratchLength ⌝ }
     ensures { λ r. ⌜ Listing (listing (now (query .entry))) (now (work .exit)) r × (length (now (work .exit)) ≡ length (now (work .entry))) ⌝ }
 {
-    let mut table = [0u8; 1292];
+    let mut table = [0u8; LONGEST_TABLE];
     let built = builder::build(query, work, &mut table);
     let refusal = built.refusal;
-    if refusal != 0 {
+    if refusal != PASSED {
         return listing::refused(refusal, work);
     }
     let length = built.length;
@@ -47,11 +51,20 @@ fn hand_over(bytes: &[u8], text: &mut [u8]) -> Listed
     if text.len() < n {
         return no_room();
     }
-    table::write_row(text, 0, bytes);
+    byte_rows::copy(text, 0, bytes);
     Listed {
-        refusal: 0,
+        refusal: PASSED,
         length: n,
     }
+}
+
+// The line of a refusal into the text.
+fn list_refusal(refusal: u8, text: &mut [u8]) -> Listed
+    ensures { λ r. ⌜ Handed (refusedLine refusal) (now (text .entry)) (now (text .exit)) r ⌝ }
+{
+    let mut line = [0u8; 12];
+    let n = listing::refused(refusal, &mut line);
+    hand_over(&line[..n], text)
 }
 
 // The listing, made in the work memory and handed over into the text; the work memory is cleared behind it.
@@ -61,19 +74,23 @@ fn list_cleared(query: &[u8], work: &mut [u8], text: &mut [u8]) -> Listed
 {
     let n = write_listing(query, work);
     let listed = hand_over(&work[..n], text);
-    builder::clear::clear(work);
+    byte_rows::clear(work);
     listed
 }
 
-// List a query, whatever its bytes and whatever is lent: 9 for scratch below 16,384 bytes, then 9 for a text shorter than the listing. A query that is
-// refused has a listing too, the line of its refusal.
+// List a query, whatever its bytes and whatever is lent: checks 1 to 6, whose line is the listing, then 9 for scratch, then 7 and 8, whose line is the listing,
+// and 9 for a text shorter than what is to be printed.
 pub fn list(query: &[u8], scratch: &mut [u8], text: &mut [u8]) -> Listed
     ensures { λ r. ⌜ r ≡ answerOf (listing (now (query .entry))) (listRefusal (now (query .entry)) (length (now (scratch .entry))) (length (now (text .entry)))) ⌝ }
     ensures { λ r. ⌜ now (text .exit) ≡ textAfter (listing (now (query .entry))) (listRefusal (now (query .entry)) (length (now (scratch .entry))) (length (now (text .entry)))) (now (text .entry)) ⌝ }
-    ensures { λ r. ⌜ now (scratch .exit) ≡ scratchAfter (now (scratch .entry)) ⌝ }
+    ensures { λ r. ⌜ now (scratch .exit) ≡ scratchAfter (now (query .entry)) (now (scratch .entry)) ⌝ }
 {
-    if scratch.len() < 16384 {
+    let refusal = query_check::check(query);
+    if refusal != PASSED {
+        return list_refusal(refusal, text);
+    }
+    if scratch.len() < SCRATCH_LENGTH {
         return no_room();
     }
-    list_cleared(query, &mut scratch[..16384], text)
+    list_cleared(query, &mut scratch[..SCRATCH_LENGTH], text)
 }

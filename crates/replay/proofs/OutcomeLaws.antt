@@ -9,7 +9,7 @@ use Rattle.theory.specs.Refusals.{passed}
 use Rattle.theory.specs.Query.{Bytes}
 use Rattle.theory.specs.Build.{Outcome, refused, built, outcome, written, outputAfter}
 use Rattle.theory.proofs.DemandThree.{demand-three}
-use Rattle.builder.specs.declared.construct.Built.{Built}
+use Rattle.builder.specs.declared.Built.{Built}
 use Rattle.builder.specs.Built.{answerOf}
 use Rattle.builder.proofs.AnswerLaws.{granted}
 use Rattle.replay.specs.Replay.{replayed, lookupsAfter, Modelled}

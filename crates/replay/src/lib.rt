@@ -8,10 +8,11 @@ ghost use Rattle.builder.specs.Built as built;
 ghost use Rattle.lookup.specs.Answers.{answerOf, heldOf, Listed};
 ghost use Rattle.replay.specs.Replay.{lookupOf, answerTo, stateAfter, replayed, lookupsAfter, Modelled};
 ghost use Rattle.replay.specs.Answered.{Gives, lookupAt, answeredAt};
-use builder::construct::Built;
+use builder::Built;
 use lookup::Asked;
 use lookup::Mark;
 use lookup::Moved;
+use numbers::refusals::PASSED;
 use table::OrderHandle;
 use table::SetHandle;
 use table::StateNumber;
@@ -30,7 +31,7 @@ fn moved(answer: Moved, before: Mark) -> Answered
 {
     match answer {
         Moved::To(next) => Answered {
-            refusal: table::PASSED,
+            refusal: PASSED,
             value: next.state.0,
             next,
         },
@@ -48,12 +49,12 @@ fn asked(answer: Asked, mark: Mark) -> Answered
 {
     match answer {
         Asked::Held => Answered {
-            refusal: table::PASSED,
+            refusal: PASSED,
             value: 1,
             next: mark,
         },
         Asked::NotHeld => Answered {
-            refusal: table::PASSED,
+            refusal: PASSED,
             value: 0,
             next: mark,
         },

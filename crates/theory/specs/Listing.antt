@@ -63,8 +63,13 @@ unfoldable pub tableListing : Bytes → ℕ → Bytes
 tableListing t n =
     countsLine t n ++ (flatten (map (startLine t) (upFrom 0 (producedIn t))) ++ flatten (map (stateLine t) (upFrom 0 (statesIn t))))
 
+-- The line of a refusal.
+abbrev pub refusedLine : ℕ → Bytes
+refusedLine n = refusedLabel ++ (decimal n ++ lineEnd)
+
+-- What is listed of a build: its refusal's line, or its table.
 abbrev pub listed : Outcome → Bytes
-listed (refused n) = refusedLabel ++ (decimal n ++ lineEnd)
+listed (refused n) = refusedLine n
 listed (built t n) = tableListing t n
 
 -- The listing of a query, with room enough for the build.

@@ -2,7 +2,7 @@
 use mathlib.Core.Path.{sym, _∙_, subst}
 use denote.Ref.{now}
 use lib.Seq.{length-take-le}
-use Rattle.builder.proofs.ClearLaws.{zeroed-whole}
+use Rattle.byte_rows.proofs.ClearLaws.{zeroed-whole}
 use Rattle.query_listing.specs.Listed.{Handed}
 use borrow.Author.Needs.{needs}
 use Rattle.query_listing.proofs.list_cleared.Statement.{statement}
