@@ -1,5 +1,5 @@
-// Bytes and rows of bytes, read and written: any bytes, rows of any width. Reading a byte and clearing take any bytes; the others require what fits where, and no
-// function that is called from outside hands them on.
+// Bytes and rows of bytes of any width, read, written and cleared. Reading a byte and clearing take any bytes; reading a row and copying require that it lies
+// within the bytes, which their callers have shown: neither is an entry point.
 ghost use mathlib.Core.Path.{_≡_};
 ghost use Prim.Native.Nat.{_+_, _*_, _≤_};
 ghost use lib.ListN.{length, take, drop};

@@ -1,4 +1,4 @@
--- The answers of an entry and a take as one number: each has a refusal and a state that are bytes, and its number is read back.
+-- The answers of an entry and a take as one number: each is a state, which is a byte, or a refusal with one of their numbers, and its number is read back.
 use Prim.Native.Nat.{ℕ, _/_, _<_, _≤_}
 use native.Mathlib.Omega.{arith}
 use mathlib.Core.Path.{_≡_, refl, ap}

@@ -1,7 +1,7 @@
 -- What a refused form makes of every lookup, the numbers of refusals, and what a granted row shows.
 use Prim.Native.Nat.{ℕ, zero, suc, _<_, _≤_}
 use native.Mathlib.Omega.{arith}
-use mathlib.Core.Path.{_≡_, refl, _∙_, sym}
+use mathlib.Core.Path.{_≡_, refl, _∙_}
 use mathlib.Core.Bool.{Bool, true, false}
 use mathlib.Core.Logic.{_⊎_, inl, inr, ⊎-elim}
 use borrow.Author.Tests.{ne-eqb, leb-true}
@@ -38,11 +38,11 @@ one-or-two (suc (suc (suc n))) h f = absurd (omega arith)
 pub form-listed : (t : Bytes) → (formRefusal t ≡ passed → ⊥) → (formRefusal t ≡ length-refused) ⊎ (formRefusal t ≡ size-refused)
 form-listed t f = one-or-two (formRefusal t) (form-few t) f
 
--- .. and so is an ask
+-- .. and an ask with one of its numbers
 pub ask-listed : (t : Bytes) {n : ℕ} → n ≡ formRefusal t → (n ≡ passed → ⊥) → AskRefusal n
 ask-listed t {n} e f = rw e (⊎-elim inl (λ k. inr (inl k)) (form-listed t (λ k. f (e ∙ k))))
 
--- no refusal has the number 0
+-- the number of a refusal is not 0, and it is a byte
 pub refusal-some : (n : ℕ) → MoveRefusal n → (0 < n) × (n < 256)
 refusal-some n (inl e) = omega arith
 refusal-some n (inr (inl e)) = omega arith

@@ -1,4 +1,7 @@
 // Reading a query's bytes: the counts, the heads and the four bytes of each item. Items are counted from 0, the orders first.
+use crate::dependencies;
+use crate::produced;
+use crate::tested;
 use byte_rows::byte;
 use numbers::limits;
 use orders::Order;
@@ -12,14 +15,14 @@ ghost use Rattle.orders.specs.Orders.{OrderIs};
 pub fn order_count(query: &[u8]) -> u16
     ensures { λ r. ⌜ (r ≡ orderCount (now (query .entry))) × (r ≤ 510) ⌝ }
 {
-    byte(query, 1) as u16 + byte(query, 2) as u16
+    produced(query) as u16 + tested(query) as u16
 }
 
 // The number of items, P + T + D.
 pub fn item_count(query: &[u8]) -> u16
     ensures { λ r. ⌜ (r ≡ itemCount (now (query .entry))) × (r ≤ 765) ⌝ }
 {
-    order_count(query) + byte(query, 4) as u16
+    order_count(query) + dependencies(query) as u16
 }
 
 // The head of item i.

@@ -1,5 +1,4 @@
 // Refusals 3, 4, 5: the items one by one, each for its form, its columns and a repeat.
-use byte_rows::byte;
 use numbers::limits;
 use numbers::refusals;
 use orders::Order;
@@ -116,13 +115,13 @@ fn dependency_refusal(columns: u8, sets: u8, head: u8, body: Order) -> u8
 fn item_refusal(query: &[u8], i: u16) -> u8
     ensures { λ r. ⌜ r ≡ itemRefusal (now (query .entry)) i ⌝ }
 {
-    let columns = byte(query, 0);
+    let columns = query::columns(query);
     let head = bytes::head(query, i);
     let body = bytes::body(query, i);
     if i < bytes::order_count(query) {
         return order_refusal(columns, head, body);
     }
-    dependency_refusal(columns, byte(query, 3), head, body)
+    dependency_refusal(columns, query::sets(query), head, body)
 }
 
 // The first item that is refused, if one is.

@@ -1,5 +1,4 @@
 // Refusals 1, 2, 1: fewer than five bytes; a size outside its limits; a total other than the sizes imply.
-use byte_rows::byte;
 use numbers::limits;
 use numbers::refusals;
 ghost use mathlib.Core.Path.{_≡_};
@@ -55,10 +54,10 @@ fn sized(len: usize, n: u8, p: u8, t: u8, s: u8, d: u8) -> u8
 pub fn sizes_refusal(query: &[u8]) -> u8
     ensures { λ r. ⌜ r ≡ sizesRefusal (now (query .entry)) ⌝ }
 {
-    let n = byte(query, 0);
-    let p = byte(query, 1);
-    let t = byte(query, 2);
-    let s = byte(query, 3);
-    let d = byte(query, 4);
+    let n = query::columns(query);
+    let p = query::produced(query);
+    let t = query::tested(query);
+    let s = query::sets(query);
+    let d = query::dependencies(query);
     sized(query.len(), n, p, t, s, d)
 }

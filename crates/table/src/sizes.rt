@@ -43,39 +43,40 @@ pub fn successors_base(table: &[u8]) -> usize
 pub fn held_base(table: &[u8]) -> usize
     ensures { λ r. ⌜ (r ≡ heldBase (now (table .entry))) × (r < 65536) ⌝ }
 {
-    past_successors(byte(table, 0), byte(table, 1), byte(table, 3))
+    past_successors(states(table), produced(table), sets(table))
 }
 
-// Sizes, starts and successors take so many bytes.
-fn past_successors(q: u8, p: u8, s: u8) -> usize
+// Sizes, starts and successors take so many bytes. The sizes are bytes: every caller has read them from a table or passed their limits.
+fn past_successors(q: usize, p: usize, s: usize) -> usize
+    requires { ⌜ (q < 256) × (p < 256) × (s < 256) ⌝ }
     ensures { λ r. ⌜ (r ≡ tableSizes + p + q * s) × (r < 65536) ⌝ }
 {
-    limits::TABLE_SIZES + p as usize + q as usize * s as usize
+    limits::TABLE_SIZES + p + q * s
 }
 
 // The checks 2 and 1 on the sizes and the number of bytes: a size outside its limits; a total other than the sizes imply.
-fn sizes_refusal(q: u8, p: u8, t: u8, s: u8, total: usize) -> u8
+fn sizes_refusal(q: usize, p: usize, t: usize, s: usize, total: usize) -> u8
     ensures { λ r. ⌜ r ≡ sizesRefusal q p t s total ⌝ }
 {
     if q < 1 {
         return refusals::SIZE;
     }
-    if limits::MAX_STATES < q as usize {
+    if limits::MAX_STATES < q {
         return refusals::SIZE;
     }
     if p < 1 {
         return refusals::SIZE;
     }
-    if limits::MAX_PRODUCED < p {
+    if (limits::MAX_PRODUCED as usize) < p {
         return refusals::SIZE;
     }
-    if limits::MAX_TESTED < t {
+    if (limits::MAX_TESTED as usize) < t {
         return refusals::SIZE;
     }
-    if limits::MAX_SETS < s {
+    if (limits::MAX_SETS as usize) < s {
         return refusals::SIZE;
     }
-    if total == past_successors(q, p, s) + q as usize * limits::HELD_WIDTH {
+    if total == past_successors(q, p, s) + q * limits::HELD_WIDTH {
         refusals::PASSED
     } else {
         refusals::LENGTH
@@ -90,10 +91,10 @@ pub fn form(table: &[u8]) -> u8
         return refusals::LENGTH;
     }
     sizes_refusal(
-        byte(table, 0),
-        byte(table, 1),
-        byte(table, 2),
-        byte(table, 3),
+        states(table),
+        produced(table),
+        tested(table),
+        sets(table),
         table.len(),
     )
 }

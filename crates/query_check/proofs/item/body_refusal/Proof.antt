@@ -1,4 +1,4 @@
--- `query_check::item::body_refusal` meets its contract, by what the three searches found.
+-- `query_check::item::body_refusal` meets its contract: the three checks in the order of the list, by what the searches found.
 use borrow.Author.Tests.{not-true, not-false}
 use borrow.Author.Needs.{needs}
 use Rattle.theory.specs.Query.{bodyRefusal}
@@ -13,25 +13,46 @@ clear-from-requires c κs = search needs
 
 returns : tie.Need-returns
 unfolding bodyRefusal
-returns c = rw (← c .before .clear-from .ensures, not-true (c .before .clear-from .result) (c .if1 .taken))
+returns c =
+    let clear = c .before in
+    rw (← clear .clear-from .ensures, not-true (clear .clear-from .result) (c .if1 .taken))
 
 below-requires : tie.Need-below-requires
 below-requires c κs = search needs
 
 returns-2 : tie.Need-returns-2
 unfolding bodyRefusal
-returns-2 c = rw (← c .before .before .before .clear-from .ensures, not-false (c .before .before .before .clear-from .result) (c .before .before .if1 .left), ← c .before .before .before .before .front .ensures .order, ← c .before .below .ensures, not-true (c .before .below .result) (c .if2 .taken))
+returns-2 c =
+    let found = c .before in
+    let first = found .before in
+    let clear = first .before in
+    rw (← clear .clear-from .ensures, not-false (clear .clear-from .result) (first .if1 .left))
+    (rw (← clear .before .front .ensures .order, ← found .below .ensures, not-true (found .below .result) (c .if2 .taken)))
 
 repeated-requires : tie.Need-repeated-requires
 repeated-requires c κs = search needs
 
 returns-3 : tie.Need-returns-3
 unfolding bodyRefusal
-returns-3 c = rw (← c .before .before .before .before .before .clear-from .ensures, not-false (c .before .before .before .before .before .clear-from .result) (c .before .before .before .before .if1 .left), ← c .before .before .before .before .before .before .front .ensures .order, ← c .before .before .before .below .ensures, not-false (c .before .before .before .below .result) (c .before .before .if2 .left), ← c .before .repeated .ensures, c .if3 .taken)
+returns-3 c =
+    let second = c .before .before in
+    let found = second .before in
+    let first = found .before in
+    let clear = first .before in
+    rw (← clear .clear-from .ensures, not-false (clear .clear-from .result) (first .if1 .left))
+    (rw (← clear .before .front .ensures .order, ← found .below .ensures, not-false (found .below .result) (second .if2 .left))
+    (rw (← c .before .repeated .ensures, c .if3 .taken)))
 
 returns-4 : tie.Need-returns-4
 unfolding bodyRefusal
-returns-4 c = rw (← c .before .before .before .before .before .clear-from .ensures, not-false (c .before .before .before .before .before .clear-from .result) (c .before .before .before .before .if1 .left), ← c .before .before .before .before .before .before .front .ensures .order, ← c .before .before .before .below .ensures, not-false (c .before .before .before .below .result) (c .before .before .if2 .left), ← c .before .repeated .ensures, c .if3 .left)
+returns-4 c =
+    let second = c .before .before in
+    let found = second .before in
+    let first = found .before in
+    let clear = first .before in
+    rw (← clear .clear-from .ensures, not-false (clear .clear-from .result) (first .if1 .left))
+    (rw (← clear .before .front .ensures .order, ← found .below .ensures, not-false (found .below .result) (second .if2 .left))
+    (rw (← c .before .repeated .ensures, c .if3 .left)))
 
 pub body-refusal-spec : {M : Type 1} → statement M
 body-refusal-spec =

@@ -8,8 +8,8 @@ use Rattle.theory.proofs.Picks.{pick-yes, pick-no}
 use Rattle.query_check.proofs.item.item_refusal.Statement.{statement}
 use Rattle.query_check.proofs.item.item_refusal.Tie as tie
 
-byte-requires : tie.Need-byte-requires
-byte-requires c κs = search needs
+columns-requires : tie.Need-columns-requires
+columns-requires c κs = search needs
 
 head-requires : tie.Need-head-requires
 head-requires c κs = search needs
@@ -27,8 +27,8 @@ returns : tie.Need-returns
 unfolding itemRefusal
 returns c = let a = c .before .before .before .before .before .before .before .args in pick-yes _ (lt-ltb (a .i) (orderCount (now (a .query))) (omega arith)) (cc)
 
-byte-requires-2 : tie.Need-byte-requires-2
-byte-requires-2 c κs = search needs
+sets-requires : tie.Need-sets-requires
+sets-requires c κs = search needs
 
 dependency-refusal-requires : tie.Need-dependency-refusal-requires
 dependency-refusal-requires c κs = search needs
@@ -41,12 +41,12 @@ pub item-refusal-spec : {M : Type 1} → statement M
 item-refusal-spec =
     tie.close
     (tie.spec
-    byte-requires
+    columns-requires
     head-requires
     body-requires
     order-count-requires
     order-refusal-requires
     returns
-    byte-requires-2
+    sets-requires
     dependency-refusal-requires
     returns-2)

@@ -5,20 +5,20 @@ use Rattle.query_check.specs.Sizes.{sizesOf}
 use Rattle.query_check.proofs.sizes.sizes_refusal.Statement.{statement}
 use Rattle.query_check.proofs.sizes.sizes_refusal.Tie as tie
 
-byte-requires : tie.Need-byte-requires
-byte-requires c κs = search needs
+columns-requires : tie.Need-columns-requires
+columns-requires c κs = search needs
 
-byte-requires-2 : tie.Need-byte-requires-2
-byte-requires-2 c κs = search needs
+produced-requires : tie.Need-produced-requires
+produced-requires c κs = search needs
 
-byte-requires-3 : tie.Need-byte-requires-3
-byte-requires-3 c κs = search needs
+tested-requires : tie.Need-tested-requires
+tested-requires c κs = search needs
 
-byte-requires-4 : tie.Need-byte-requires-4
-byte-requires-4 c κs = search needs
+sets-requires : tie.Need-sets-requires
+sets-requires c κs = search needs
 
-byte-requires-5 : tie.Need-byte-requires-5
-byte-requires-5 c κs = search needs
+dependencies-requires : tie.Need-dependencies-requires
+dependencies-requires c κs = search needs
 
 sized-requires : tie.Need-sized-requires
 sized-requires c κs = search needs
@@ -31,10 +31,10 @@ pub sizes-refusal-spec : {M : Type 1} → statement M
 sizes-refusal-spec =
     tie.close
     (tie.spec
-    byte-requires
-    byte-requires-2
-    byte-requires-3
-    byte-requires-4
-    byte-requires-5
+    columns-requires
+    produced-requires
+    tested-requires
+    sets-requires
+    dependencies-requires
     sized-requires
     returns)

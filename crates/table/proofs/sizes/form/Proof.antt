@@ -11,17 +11,17 @@ returns : tie.Need-returns
 unfolding formRefusal
 returns c = search picks
 
-byte-requires : tie.Need-byte-requires
-byte-requires c κs = search needs
+states-requires : tie.Need-states-requires
+states-requires c κs = search needs
 
-byte-requires-2 : tie.Need-byte-requires-2
-byte-requires-2 c κs = search needs
+produced-requires : tie.Need-produced-requires
+produced-requires c κs = search needs
 
-byte-requires-3 : tie.Need-byte-requires-3
-byte-requires-3 c κs = search needs
+tested-requires : tie.Need-tested-requires
+tested-requires c κs = search needs
 
-byte-requires-4 : tie.Need-byte-requires-4
-byte-requires-4 c κs = search needs
+sets-requires : tie.Need-sets-requires
+sets-requires c κs = search needs
 
 sizes-refusal-requires : tie.Need-sizes-refusal-requires
 sizes-refusal-requires c κs = search needs
@@ -34,9 +34,9 @@ form-spec =
     tie.close
     (tie.spec
     returns
-    byte-requires
-    byte-requires-2
-    byte-requires-3
-    byte-requires-4
+    states-requires
+    produced-requires
+    tested-requires
+    sets-requires
     sizes-refusal-requires
     returns-2)

@@ -10,13 +10,13 @@ add-result : tie.Need-add-result
 add-result c = search needs
 
 mul-result : tie.Need-mul-result
-mul-result c = omega (arith, byte-product (c .args .q) (c .args .s) (omega arith) (omega arith))
+mul-result c = omega (arith, byte-product (c .args .q) (c .args .s) (c .pre .0) (c .pre .2))
 
 add-result-2 : tie.Need-add-result-2
-add-result-2 c = omega (arith, byte-product (c .args .q) (c .args .s) (omega arith) (omega arith))
+add-result-2 c = omega (arith, byte-product (c .args .q) (c .args .s) (c .pre .0) (c .pre .2))
 
 returns : tie.Need-returns
-returns c = (refl, omega (arith, byte-product (c .args .q) (c .args .s) (omega arith) (omega arith)))
+returns c = (refl, omega (arith, byte-product (c .args .q) (c .args .s) (c .pre .0) (c .pre .2)))
 
 pub past-successors-spec : {M : Type 1} → statement M
 past-successors-spec = tie.close (tie.spec add-result mul-result add-result-2 returns)

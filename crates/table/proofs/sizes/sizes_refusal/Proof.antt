@@ -17,13 +17,22 @@ returns-3 : tie.Need-returns-3
 unfolding sizesRefusal
 returns-3 c = search picks depth 12
 
+cast-if4 : tie.Need-cast-if4
+cast-if4 c = search needs
+
 returns-4 : tie.Need-returns-4
 unfolding sizesRefusal
 returns-4 c = search picks depth 12
 
+cast-if5 : tie.Need-cast-if5
+cast-if5 c = search needs
+
 returns-5 : tie.Need-returns-5
 unfolding sizesRefusal
 returns-5 c = search picks depth 12
+
+cast-if6 : tie.Need-cast-if6
+cast-if6 c = search needs
 
 returns-6 : tie.Need-returns-6
 unfolding sizesRefusal
@@ -53,8 +62,11 @@ sizes-refusal-spec =
     returns
     returns-2
     returns-3
+    cast-if4
     returns-4
+    cast-if5
     returns-5
+    cast-if6
     returns-6
     past-successors-requires
     mul-if7
