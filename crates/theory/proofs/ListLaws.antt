@@ -44,7 +44,7 @@ module _ {A : Type 0} where
   pub prefix-getD : (l : List A) {m : List A} → IsPrefix l m → (i : ℕ) (d : A) → i < length l → getD m i d ≡ getD l i d
   prefix-getD l p i d h = ap (λ k. getD k i d) (sym (p .1)) ∙ List·getD-append l (p .0) d i h
 
-  distinct-rest : {x : A} {xs : List A} → Distinct (x ∷ xs) → (¬ List·Memᴰ x xs) × Distinct xs
+  pub distinct-rest : {x : A} {xs : List A} → Distinct (x ∷ xs) → (¬ List·Memᴰ x xs) × Distinct xs
   distinct-rest (also n d) = (n, d)
 
   pub distinct-snoc : {l : List A} {x : A} → Distinct l → ¬ List·Memᴰ x l → Distinct (l ++ (x ∷ []))

@@ -1,15 +1,15 @@
 -- The first place behind some columns, and the orderings with a column put in.
 use Prim.Native.Nat.{ℕ, suc, _-_, _≤_, zero-le}
 use native.Mathlib.Omega.{arith}
-use mathlib.Core.Path.{_≡_, refl, subst}
+use mathlib.Core.Path.{_≡_, refl}
 use mathlib.Core.Logic.{⊎-elim}
-use mathlib.Core.List.{List, [], _∷_, List·Memᴰ, List·Memᴰ·head, List·Memᴰ·tail, List·Memᴰ·not-nil, List·Memᴰ·cases-cons, Memᴰ·append-left, Memᴰ·cast, Memᴰ·map, Memᴰ·of-map}
+use mathlib.Core.List.{List, [], _∷_, List·Memᴰ, List·Memᴰ·head, List·Memᴰ·tail, List·Memᴰ·not-nil, List·Memᴰ·cases-cons, Memᴰ·cast, Memᴰ·map, Memᴰ·of-map}
 use lib.ListN.{length, take, drop, take-append-drop}
 use Rattle.theory.specs.Tests.{upFrom}
 use Rattle.theory.specs.Orders.{Order}
 use Rattle.theory.specs.Construction.{insertAt, behindAll, insertsFrom}
 use Rattle.theory.proofs.Reflect.{decides-number}
-use Rattle.theory.proofs.ListLaws.{member-upFrom, upFrom-member}
+use Rattle.theory.proofs.ListLaws.{prefix-within, member-upFrom, upFrom-member}
 use Rattle.theory.proofs.PositionLaws.{position-below, below-position}
 
 -- a place is behind all the columns exactly when they all stand before it
@@ -36,4 +36,4 @@ pub inserts-member : (k c n : ℕ) (o : Order) → k ≤ n → n ≤ length o �
 inserts-member k c n o h l = Memᴰ·map (λ j. insertAt j c o) (upFrom-member k (suc (length o) - k) h (omega arith))
 
 pub member-take : (k : ℕ) (o : Order) {c : ℕ} → List·Memᴰ c (take k o) → List·Memᴰ c o
-member-take k o {c} m = subst (λ (l : Order). List·Memᴰ c l) (take-append-drop k o) (Memᴰ·append-left (drop k o) m)
+member-take k o {c} m = prefix-within (take k o) (drop k o, take-append-drop k o) c m

@@ -10,6 +10,7 @@ use borrow.Author.Tests.{ltb-true, ltb-false, leb-true, leb-false, eqb-true, eqb
 use Rattle.theory.specs.Tests.{Says, holds, fails, Decides, Distinct, empty, also, every, member, repeats, sameList}
 use Rattle.theory.specs.Orders.{sameOrder}
 use Rattle.theory.specs.Construction.{sameMarks}
+use Rattle.theory.proofs.ListLaws.{distinct-rest}
 
 module _ {P : Type 0} where
   -- a test's value from the fact, and the fact from the value
@@ -104,14 +105,8 @@ module _ {A : Type 0} {same : A → A → Bool} (dec : Decides same) where
   says-repeats (x ∷ xs) = go (says-member x xs) (says-repeats xs)
     where
       go : {b : Bool} → Says (List·Memᴰ x xs) b → Says (¬ Distinct xs) (repeats same xs) → Says (¬ Distinct (x ∷ xs)) (elim b [ true ↦ true | false ↦ repeats same xs ])
-      go (holds m) s = holds (λ d. not-first d m)
-        where
-          not-first : Distinct (x ∷ xs) → ¬ List·Memᴰ x xs
-          not-first (also n d) = n
-      go (fails n) s = says-as (λ f d. f (rest d)) (λ f d. f (also n d)) s
-        where
-          rest : Distinct (x ∷ xs) → Distinct xs
-          rest (also m d) = d
+      go (holds m) s = holds (λ d. distinct-rest d .0 m)
+      go (fails n) s = says-as (λ f d. f (distinct-rest d .1)) (λ f d. f (also n d)) s
 
 pub decides-number : Decides eqb
 decides-number = says-eqb

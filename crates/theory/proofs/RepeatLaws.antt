@@ -2,13 +2,13 @@
 use Prim.Native.Nat.{ℕ}
 use mathlib.Core.Path.{_≡_, refl, sym, _∙_, subst}
 use mathlib.Core.Logic.{_↔_}
-use mathlib.Core.List.{List, [], _∷_, _++_, map, map-append, append-assoc, List·Memᴰ, Memᴰ·append-left}
+use mathlib.Core.List.{List, [], _∷_, _++_, map, map-append, prefix-append, List·Memᴰ, Memᴰ·append-left}
 use lib.ListN.{length, getD}
 use Rattle.theory.specs.Orders.{Order, Orderings, Rule, Query, rulesOf, sameOrder, Reach, given, Taken, Start, whole, After}
 use Rattle.theory.specs.Closure.{closure}
 use Rattle.theory.specs.Machine.{runs}
 use Rattle.theory.specs.Construction.{kept, keptSteps, KeptAfter, Node, Marks, marks, marked, prefixes, startState, takeSet, construction, State}
-use Rattle.theory.proofs.ListLaws.{member-getD}
+use Rattle.theory.proofs.ListLaws.{member-getD, prefix-trans}
 use Rattle.theory.proofs.KeptLaws.{Cut, Within, PrefixClosed, cut-whole, reach-prefix, reach-cut}
 use Rattle.theory.proofs.CutTheorem.{kept-cut, start-kept}
 use Rattle.theory.proofs.StateLaws.{Alike, reach-more, reach-again, reach-none, marks-exactly, marks-canonical, In, take-exactly, state-exactly}
@@ -20,7 +20,7 @@ record Whole (cut : Order → Order) (X : Orderings) : Type 0 where
   own : (o : Order) → X o → cut o ≡ o
 
 start-closed : (p : Order) → PrefixClosed (Start p)
-start-closed p o t s = (t ++ s .0, sym (append-assoc o t (s .0)) ∙ s .1)
+start-closed p o t s = prefix-trans o (prefix-append o t) s
 
 module _ {cut : Order → Order} (ok : Cut cut) where
   -- so are all sets of orderings that come of taking sets
