@@ -1,26 +1,32 @@
 -- Every starred trial of document 01 comes out as expected: one computed test over the table of trials, and one law that turns it into what each means.
+use Prim.Native.Nat.{ℕ}
 use native.Mathlib.Nat.{le-of-eq}
 use mathlib.Core.Path.{_≡_, refl, sym, _∙_, ap, ap₂, subst}
 use mathlib.Core.Bool.{true, false≢true}
-use mathlib.Core.List.{[], List·Memᴰ}
+use mathlib.Core.List.{List, [], List·Memᴰ, flatten}
 use lib.ListN.{length, getD}
-use Rattle.theory.specs.Limits.{maxNodes}
+use borrow.Author.Tests.{ltb-false}
+use Rattle.theory.specs.Limits.{maxNodes, maxStates, scratchLength, longestTable}
 use Rattle.theory.specs.Tests.{Says, every}
-use Rattle.theory.specs.Orders.{interesting, After}
-use Rattle.theory.specs.Construction.{nodes, statesWithin, wantedColumns, kept, steps, keptSteps, startState, takeSet, holdsIn}
+use Rattle.theory.specs.Orders.{Query, interesting, After}
+use Rattle.theory.specs.Closure.{Exactly}
+use Rattle.theory.specs.Machine.{numberedWithin}
+use Rattle.theory.specs.Construction.{nodes, State, states, wantedColumns, kept, steps, keptSteps, startState, takeSet, holdsIn, sizesOf, construction}
+use Rattle.theory.specs.Refusals.{passed}
 use Rattle.theory.specs.Query.{Bytes, readQuery, sizesRefusal, bodyRefusal, orderRefusal, dependencyRefusal, itemRefusal, twinRefusal, queryRefusal}
-use Rattle.theory.specs.Table.{tableOf, writeTable}
+use Rattle.theory.specs.Table.{tableOf, writeTable, statesIn}
 use Rattle.theory.specs.Build.{Outcome, refused, built, construct, outcome}
-use Rattle.trials.specs.Trials.{Trial, Expectation, table, refusal, state-count, after, same-state, sameOutcome, outcomeOf, stateAfter, comesOut, passes, Meets, trials}
-use Rattle.theory.proofs.Reflect.{says-true, says-every, says-by, says-and, says-eqb, says-ltb, says-leb, decides-list, decides-number, decides-marks, decides-bool}
+use Rattle.trials.specs.Trials.{Trial, Expectation, table, builds, refusal, state-count, after, same-state, sameOutcome, outcomeOf, Builds, hasSizes, Admitted, isAdmitted, Run, isRun, stateAfter, comesOut, passes, Meets, trials}
+use Rattle.theory.proofs.Reflect.{says-true, false-says, says-every, says-by, says-as, says-and, says-not, says-eqb, says-ltb, decides-list, decides-number, decides-marks, decides-bool}
 use Rattle.theory.proofs.ListLaws.{member-getD}
-use Rattle.theory.proofs.NodeLaws.{nodes-exactly}
+use Rattle.theory.proofs.MachineLaws.{numbered-distinct, numbered-exactly}
+use Rattle.theory.proofs.NodeLaws.{nodes-exactly, nodes-many}
 use Rattle.theory.proofs.StateLaws.{says-held}
-use Rattle.theory.proofs.NumberedLaws.{states-distinct, states-exactly}
+use Rattle.theory.proofs.DemandThree.{Built, built-facts}
 
 -- the computed test of all trials
 all-pass : every passes trials ≡ true
-unfolding wantedColumns kept steps keptSteps nodes startState takeSet statesWithin readQuery sizesRefusal bodyRefusal orderRefusal dependencyRefusal itemRefusal twinRefusal queryRefusal tableOf writeTable construct outcome
+unfolding flatten wantedColumns kept steps keptSteps nodes startState takeSet numberedWithin readQuery sizesRefusal bodyRefusal orderRefusal dependencyRefusal itemRefusal twinRefusal queryRefusal tableOf writeTable construct outcome comesOut
 all-pass = refl
 
 same-outcome : (r o : Outcome) → sameOutcome r o ≡ true → r ≡ o
@@ -30,31 +36,81 @@ same-outcome (built s m) (refused n) e = absurd (false≢true e)
 same-outcome (built s m) (built t n) e =
     let h = says-true (says-and (decides-list decides-number s t) (says-eqb m n)) e in ap₂ built (h .0) (h .1)
 
+-- a built table has exactly as many states as it says
+built-states : (query t : Bytes) (n : ℕ) → Built query t n → Exactly (statesIn t) (State (readQuery query) (nodes (readQuery query)))
+unfolding tableOf writeTable
+built-states query t n b =
+    let q = readQuery query in
+    let m = construction q (nodes q) in
+    record {
+      things = states q (nodes q);
+      different = numbered-distinct m (sizesOf q) decides-marks maxStates;
+      count = ap statesIn (sym (b .bytes-are));
+      each = numbered-exactly m (sizesOf q) decides-marks maxStates (b .within .few-states);
+    }
+
+-- what the tests of sizes, of a query and of a run say
+has-sizes : (query : Bytes) (m b n : ℕ) (r : Outcome) → outcomeOf query ≡ r → hasSizes r m b n ≡ true → Builds query m b n
+has-sizes query m b n (refused k) g e = absurd (false≢true e)
+has-sizes query m b n (built t k) g e =
+    let h = says-true (says-and (says-eqb (statesIn t) m) (says-and (says-eqb (length t) b) (says-eqb k n))) e in
+    record {
+      written = t;
+      gives = g ∙ ap (built t) (h .1 .1);
+      states-written = h .0;
+      bytes-written = h .1 .0;
+      states = subst (λ j. Exactly j (State (readQuery query) (nodes (readQuery query)))) (h .0) (built-states query t k (built-facts query scratchLength longestTable t k g));
+    }
+
+says-admitted : (query : Bytes) → Says (Admitted query) (isAdmitted query (nodes (readQuery query)))
+says-admitted query =
+    says-as (λ h. record { passes = h .0; few = h .1 }) (λ a. (a .passes, a .few)) (says-and (says-eqb (queryRefusal query) passed) (says-not (nodes-many (readQuery query))))
+
+says-run : (q : Query) (p : ℕ) (ss : List ℕ) → Says (Run q p ss) (isRun q p ss)
+says-run q p ss =
+    says-as (λ h. record { produced = h .0; sets = h .1 }) (λ r. (r .produced, r .sets)) (says-and (says-ltb p (length (q .produced))) (says-every (λ s. says-ltb s (q .sets)) ss))
+
 -- what each passed test means
-meets : (query : Bytes) (x : Expectation) → comesOut query (readQuery query) x ≡ true → Meets query x
+meets : (query : Bytes) (x : Expectation) → comesOut query (readQuery query) (nodes (readQuery query)) x ≡ true → Meets query x
+unfolding comesOut
 meets query (table b n) e = same-outcome (outcomeOf query) (built b n) e
+meets query (builds m b n) e = has-sizes query m b n (outcomeOf query) refl e
 meets query (refusal n) e = same-outcome (outcomeOf query) (refused n) e
 meets query (state-count n) e =
     let q = readQuery query in
-    let count = says-true (says-eqb (length (statesWithin n q (nodes q))) n) e in
-    record {
-      things = statesWithin n q (nodes q);
-      different = states-distinct q (nodes q) n;
-      count = count;
-      each = states-exactly q (nodes q) n (le-of-eq count);
-    }
+    let m = construction q (nodes q) in
+    let h = says-true (says-and (says-admitted query) (says-eqb (length (numberedWithin m n (sizesOf q))) n)) e in (
+      h .0,
+      record {
+        things = numberedWithin m n (sizesOf q);
+        different = numbered-distinct m (sizesOf q) decides-marks n;
+        count = h .1;
+        each = numbered-exactly m (sizesOf q) decides-marks n (le-of-eq (h .1));
+      },
+    )
 meets query (after p ss i held) e =
+    let q = readQuery query in
+    let order = getD (interesting q) i [] in
+    let h =
+    says-true
+    (says-and (says-admitted query)
+    (says-and (says-run q p ss) (says-and (says-ltb i (length (interesting q))) (decides-bool (holdsIn (nodes q) (stateAfter q (nodes q) p ss) order) held))))
+    e in
+    let few = ltb-false maxNodes (length (nodes q)) (false-says (nodes-many q) (h .0 .few)) in (
+      h .0,
+      h .1 .0,
+      h .1 .1 .0,
+      subst (Says (After q (getD (q .produced) p []) ss order)) (h .1 .1 .1)
+          (says-held q (nodes q) (nodes-exactly q few) (getD (q .produced) p []) order ss
+          (member-getD (q .produced) p [] (h .1 .0 .produced)) (member-getD (interesting q) i [] (h .1 .1 .0))),
+    )
+meets query (same-state p ss rs) e =
     let q = readQuery query in
     let h =
     says-true
-    (says-and (says-and (says-ltb p (length (q .produced))) (says-ltb i (length (interesting q))))
-    (says-and (says-leb (length (nodes q)) maxNodes) (decides-bool (holdsIn (nodes q) (stateAfter q p ss) (getD (interesting q) i [])) held)))
+    (says-and (says-admitted query) (says-and (says-run q p ss) (says-and (says-run q p rs) (decides-marks (stateAfter q (nodes q) p ss) (stateAfter q (nodes q) p rs)))))
     e in
-    subst (Says (After q (getD (q .produced) p []) ss (getD (interesting q) i []))) (h .1 .1)
-    (says-held q (nodes q) (nodes-exactly q (h .1 .0)) (getD (q .produced) p []) (getD (interesting q) i []) ss
-    (member-getD (q .produced) p [] (h .0 .0)) (member-getD (interesting q) i [] (h .0 .1)))
-meets query (same-state p ss rs) e =
-    says-true (decides-marks (stateAfter (readQuery query) p ss) (stateAfter (readQuery query) p rs)) e
+    (h .0, h .1 .0, h .1 .1 .0, h .1 .1 .1)
 
 -- Every starred trial comes out as document 01 says.
 pub trials-theorem : (t : Trial) → List·Memᴰ t trials → Meets (t .query) (t .expected)

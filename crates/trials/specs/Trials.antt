@@ -1,22 +1,27 @@
 -- Document 01, "Trials at the edges": the starred trials, as one table of queries and what is expected of each.
-use Prim.Native.Nat.{ℕ}
+use Prim.Native.Nat.{ℕ, _<_}
 use mathlib.Core.Path.{_≡_}
-use mathlib.Core.Bool.{Bool, true, false, _&&_, Bool·beq}
+use mathlib.Core.Bool.{Bool, true, false, _&&_, not, Bool·beq}
 use mathlib.Core.List.{List, [], _∷_}
-use lib.Dec.{eqb, ltb, leb}
+use lib.Dec.{eqb, ltb}
 use lib.ListN.{length, getD}
 use Rattle.theory.specs.Limits.{maxNodes, scratchLength, longestTable}
-use Rattle.theory.specs.Tests.{Says, sameList}
-use Rattle.theory.specs.Orders.{Query, interesting, After}
-use Rattle.theory.specs.Closure.{Exactly}
-use Rattle.theory.specs.Construction.{Marks, sameMarks, nodes, startState, takeSets, holdsIn, statesWithin, State}
-use Rattle.theory.specs.Query.{Bytes, readQuery}
+use Rattle.theory.specs.Tests.{Says, every, sameList}
+use Rattle.theory.specs.Orders.{Order, Query, interesting, After}
+use Rattle.theory.specs.Closure.{More, Exactly}
+use Rattle.theory.specs.Machine.{AllBelow, runs, numberedWithin}
+use Rattle.theory.specs.Construction.{Node, Marks, sameMarks, nodes, holdsIn, State, sizesOf, construction}
+use Rattle.theory.specs.Refusals.{passed}
+use Rattle.theory.specs.Query.{Bytes, readQuery, queryRefusal}
+use Rattle.theory.specs.Table.{statesIn}
 use Rattle.theory.specs.Build.{Outcome, refused, built, outcome}
 
 -- What is expected of a query.
 pub data Expectation : Type 0 where
   -- the build gives this table, with so many nodes
   table : Bytes → ℕ → Expectation
+  -- the build gives a table of so many states and so many bytes, with so many nodes
+  builds : ℕ → ℕ → ℕ → Expectation
   -- the build is refused with this number
   refusal : ℕ → Expectation
   -- there are so many states
@@ -40,30 +45,63 @@ sameOutcome (built s m) (built t n) = sameList eqb s t && eqb m n
 abbrev pub outcomeOf : Bytes → Outcome
 outcomeOf query = outcome query scratchLength longestTable
 
+-- The build gives a table of m states and b bytes, with n nodes, and there are exactly so many states.
+pub record Builds (query : Bytes) (m b n : ℕ) : Type 0 where
+  pub written : Bytes
+  pub gives : outcomeOf query ≡ built written n
+  pub states-written : statesIn written ≡ m
+  pub bytes-written : length written ≡ b
+  pub states : Exactly m (State (readQuery query) (nodes (readQuery query)))
+
+abbrev pub hasSizes : Outcome → ℕ → ℕ → ℕ → Bool
+hasSizes (refused r) m b n = false
+hasSizes (built t k) m b n = eqb (statesIn t) m && (eqb (length t) b && eqb k n)
+
+-- Derivation and states are spoken of only where the query passes checks 1 to 6 and has at most 256 nodes.
+pub record Admitted (query : Bytes) : Type 0 where
+  pub passes : queryRefusal query ≡ passed
+  pub few : ¬ More maxNodes (Node (readQuery query))
+
+abbrev pub isAdmitted : Bytes → List Order → Bool
+isAdmitted query ns = eqb (queryRefusal query) passed && not (ltb maxNodes (length ns))
+
+-- The numbers of a produced order of the query and of its sets.
+pub record Run (q : Query) (p : ℕ) (ss : List ℕ) : Type 0 where
+  pub produced : p < length (q .produced)
+  pub sets : AllBelow (q .sets) ss
+
+abbrev pub isRun : Query → ℕ → List ℕ → Bool
+isRun q p ss = ltb p (length (q .produced)) && every (λ s. ltb s (q .sets)) ss
+
 -- The state after a produced order and sets, by their numbers.
-abbrev pub stateAfter : Query → ℕ → List ℕ → Marks
-stateAfter q p ss = takeSets q (nodes q) (startState (nodes q) (getD (q .produced) p [])) ss
+abbrev pub stateAfter : Query → List Order → ℕ → List ℕ → Marks
+stateAfter q ns p ss = runs (construction q ns) (construction q ns .start p) ss
 
 -- The trial comes out as expected: a test that computes, ..
-abbrev pub comesOut : Bytes → Query → Expectation → Bool
-comesOut query q (table b n) = sameOutcome (outcomeOf query) (built b n)
-comesOut query q (refusal n) = sameOutcome (outcomeOf query) (refused n)
-comesOut query q (state-count n) = eqb (length (statesWithin n q (nodes q))) n
-comesOut query q (after p ss i held) =
-    (ltb p (length (q .produced)) && ltb i (length (interesting q))) &&
-    (leb (length (nodes q)) maxNodes && Bool·beq (holdsIn (nodes q) (stateAfter q p ss) (getD (interesting q) i [])) held)
-comesOut query q (same-state p ss rs) = sameMarks (stateAfter q p ss) (stateAfter q p rs)
+unfoldable pub comesOut : Bytes → Query → List Order → Expectation → Bool
+comesOut query q ns (table b n) = sameOutcome (outcomeOf query) (built b n)
+comesOut query q ns (builds m b n) = hasSizes (outcomeOf query) m b n
+comesOut query q ns (refusal n) = sameOutcome (outcomeOf query) (refused n)
+comesOut query q ns (state-count n) = isAdmitted query ns && eqb (length (numberedWithin (construction q ns) n (sizesOf q))) n
+comesOut query q ns (after p ss i held) =
+    isAdmitted query ns && (isRun q p ss && (ltb i (length (interesting q)) && Bool·beq (holdsIn ns (stateAfter q ns p ss) (getD (interesting q) i [])) held))
+comesOut query q ns (same-state p ss rs) = isAdmitted query ns && (isRun q p ss && (isRun q p rs && sameMarks (stateAfter q ns p ss) (stateAfter q ns p rs)))
 
 abbrev pub passes : Trial → Bool
-passes t = comesOut (t .query) (readQuery (t .query)) (t .expected)
+passes t = let q = readQuery (t .query) in let ns = nodes q in comesOut (t .query) q ns (t .expected)
 
 -- .. and what it means on the definitions.
+abbrev pub Meaning : Bytes → Query → List Order → Expectation → Type 0
+Meaning query q ns (table b n) = outcomeOf query ≡ built b n
+Meaning query q ns (builds m b n) = Builds query m b n
+Meaning query q ns (refusal n) = outcomeOf query ≡ refused n
+Meaning query q ns (state-count n) = Admitted query × Exactly n (State q ns)
+Meaning query q ns (after p ss i held) =
+    Admitted query × Run q p ss × (i < length (interesting q)) × Says (After q (getD (q .produced) p []) ss (getD (interesting q) i [])) held
+Meaning query q ns (same-state p ss rs) = Admitted query × Run q p ss × Run q p rs × (stateAfter q ns p ss ≡ stateAfter q ns p rs)
+
 abbrev pub Meets : Bytes → Expectation → Type 0
-Meets query (table b n) = outcomeOf query ≡ built b n
-Meets query (refusal n) = outcomeOf query ≡ refused n
-Meets query (state-count n) = Exactly n (State (readQuery query) (nodes (readQuery query)))
-Meets query (after p ss i held) = Says (After (readQuery query) (getD (readQuery query .produced) p []) ss (getD (interesting (readQuery query)) i [])) held
-Meets query (same-state p ss rs) = stateAfter (readQuery query) p ss ≡ stateAfter (readQuery query) p rs
+Meets query = Meaning query (readQuery query) (nodes (readQuery query))
 
 -- The example: produced (0), (1,0), tested (0,1), (2), sets {0 → 1}, {1 = 2}.
 abbrev pub example : Bytes
@@ -126,7 +164,7 @@ trials =
     record { query = example; expected = same-state 1 (1 ∷ 1 ∷ []) (1 ∷ []) } ∷
     record { query = with-empty-set; expected = same-state 0 (2 ∷ []) [] } ∷
     record { query = with-empty-set; expected = same-state 1 (1 ∷ 2 ∷ []) (1 ∷ []) } ∷
-    record { query = seven-sets; expected = state-count 128 } ∷
+    record { query = seven-sets; expected = builds 128 1157 9 } ∷
     record { query = eight-sets; expected = state-count 256 } ∷
     record { query = eight-sets; expected = refusal 8 } ∷
     record { query = repeated-column; expected = refusal 5 } ∷
