@@ -1,7 +1,6 @@
 -- Every starred trial of document 01 comes out as expected: one computed test over the table of trials, and one law that turns it into what each means.
 use Prim.Native.Nat.{ℕ}
 use native.Mathlib.Nat.{le-of-eq}
-use native.Mathlib.Omega.{arith}
 use mathlib.Core.Path.{_≡_, refl, sym, _∙_, ap, ap₂, subst}
 use mathlib.Core.Bool.{true, false≢true}
 use mathlib.Core.List.{List, [], List·Memᴰ, flatten}
@@ -50,6 +49,7 @@ built-states query t n b =
       each = numbered-exactly m (sizesOf q) decides-marks maxStates (b .within .few-states);
     }
 
+-- what the tests of sizes, of a query and of a run say
 has-sizes : (query : Bytes) (m b n : ℕ) (r : Outcome) → outcomeOf query ≡ r → hasSizes r m b n ≡ true → Builds query m b n
 has-sizes query m b n (refused k) g e = absurd (false≢true e)
 has-sizes query m b n (built t k) g e =
