@@ -8,7 +8,7 @@ ghost use mathlib.Core.Path.{_≡_};
 ghost use mathlib.Core.List.{_∷_};
 ghost use Prim.Native.Nat.{_+_, _*_, _≤_};
 ghost use lib.ListN.{length};
-ghost use Rattle.theory.specs.Limits.{maxStates, maxProduced, maxSets, tableSizes, heldWidth, longestTable};
+ghost use Rattle.theory.specs.Limits.{maxStates, maxProduced, maxSets, tableSizes, heldWidth};
 ghost use Rattle.theory.specs.Scratch.{workLength};
 ghost use Rattle.byte_rows.specs.Placed.{placed};
 ghost use Rattle.builder.specs.Written.{tableIn};

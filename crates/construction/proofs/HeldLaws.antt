@@ -5,27 +5,24 @@ use native.Mathlib.Numerals.{add-one}
 use native.Mathlib.Omega.{arith}
 use mathlib.Core.Path.{_≡_, refl, sym, _∙_, ap, subst}
 use mathlib.Core.Bool.{Bool, true, false}
-use mathlib.Core.List.{List, [], _∷_, map, List·Memᴰ, List·Memᴰ·head, List·Memᴰ·tail, Memᴰ·of-map}
+use mathlib.Core.List.{List, [], _∷_, map, List·Memᴰ, List·Memᴰ·head, List·Memᴰ·tail}
 use lib.Dec.{eqb}
 use lib.ListN.{length, take, drop, getD, length-map, length-drop, drop-of-length-le, List·getD-eq-default}
 use lib.Seq.{drop-cons}
-use Rattle.theory.specs.Limits.{maxNodes}
 use Rattle.theory.specs.Tests.{Says, holds, fails, Distinct, also, pick, member, position, upFrom}
-use Rattle.theory.specs.Orders.{Order, sameOrder, allRules, interesting}
-use Rattle.theory.specs.Construction.{Marks, marked, nodes, steps, kept, keptSteps, holdsIn}
+use Rattle.theory.specs.Orders.{Order, sameOrder, interesting}
+use Rattle.theory.specs.Construction.{Marks, marked, holdsIn}
 use Rattle.theory.specs.Query.{Bytes, orderCount, orderAt, readQuery}
 use Rattle.theory.specs.Table.{bit, number}
-use Rattle.theory.proofs.Reflect.{says-one, says-as, says-ltb, decides-number, decides-order}
-use Rattle.theory.proofs.ClosureLaws.{closure-all}
+use Rattle.theory.proofs.Reflect.{says-ltb, decides-number, decides-order}
 use Rattle.theory.proofs.NodeLaws.{nodes-distinct}
 use Rattle.theory.proofs.RowLaws.{getD-map, entries, number-fits}
 use Rattle.theory.proofs.RangeLaws.{entry-at, entry-count}
 use Rattle.query.proofs.PassedLaws.{query-passed}
 use Rattle.query.proofs.ReadLaws.{interesting-at, interesting-count}
 use Rattle.derivation.specs.Keys.{keyOf, Small}
-use Rattle.nodes.specs.Nodes.{Prepared}
 use Rattle.derivation.proofs.KeyLaws.{key-injective}
-use Rattle.nodes.proofs.NodeKeys.{produced-small, kept-small, nodes-count}
+use Rattle.nodes.proofs.NodeKeys.{nodes-small, nodes-count}
 use Rattle.closure.specs.Work.{packMarks, nodesOf}
 use Rattle.closure.specs.Marks.{inMarks}
 use Rattle.construction.specs.Held.{NodesListed, holdsKey, keyBits, heldBits}
@@ -77,23 +74,6 @@ module _ (o : Order) where
       go (holds q) r = not-marked ms ns (λ m. n (subst (λ x. List·Memᴰ x ns) q m))
       go (fails f) r = r
 
-  -- its key stands among their keys where it stands among the nodes
-  key-position : Small o → (ns : List Order) → ((p : Order) → List·Memᴰ p ns → Small p) → position eqb (keyOf o) (map keyOf ns) ≡ position sameOrder o ns
-  key-position s [] all = refl
-  key-position s (p ∷ ns) all =
-      let alike : eqb (keyOf o) (keyOf p) ≡ sameOrder o p =
-      says-one (says-as (key-injective o p s (all p (List·Memᴰ·head refl))) (ap keyOf) (decides-number (keyOf o) (keyOf p))) (decides-order o p) in
-      ap (λ t. elim t as (λ (c : Bool). ℕ) [ true ↦ zero | false ↦ suc (position eqb (keyOf o) (map keyOf ns)) ]) alike
-      ∙ ap (λ n. elim (sameOrder o p) as (λ (c : Bool). ℕ) [ true ↦ zero | false ↦ suc n ]) (key-position s ns (λ q m. all q (List·Memᴰ·tail m)))
-
--- every node has a key of its own
-nodes-small : (b : Bytes) (w l : ℕ) → Prepared b w l → (o : Order) → List·Memᴰ o (nodesOf b) → Small o
-unfolding nodes keptSteps
-nodes-small b w l p =
-    let q = readQuery b in
-    closure-all decides-order (keptSteps q (allRules q)) maxNodes (q .produced) Small (produced-small b w l p)
-    (λ x y s m. let t = Memᴰ·of-map (kept q) (steps (allRules q) x) m in subst Small (t .2) (kept-small b w l p (t .0)))
-
 module _ (b : Bytes) (array : List ℕ) (n : ℕ) (listed : NodesListed b array n) where
   -- there are n nodes
   pub node-count : length (nodesOf b) ≡ n
@@ -105,7 +85,8 @@ module _ (b : Bytes) (array : List ℕ) (n : ℕ) (listed : NodesListed b array 
   held-key ms e o s =
       let r = listed .ready in
       let place : position eqb (keyOf o) (take n array) ≡ position sameOrder o (nodesOf b) =
-      ap (position eqb (keyOf o)) (r .listed .keys) ∙ key-position o s (nodesOf b) (nodes-small b (listed .wanted) (listed .depth) (r .prepared)) in
+      ap (position eqb (keyOf o)) (r .listed .keys) ∙ position-map decides-order decides-number keyOf o (nodesOf b)
+      (λ p m. key-injective o p s (nodes-small b (listed .wanted) (listed .depth) (r .prepared) p m)) in
       let at = held-at o ms (nodesOf b) (nodes-distinct (readQuery b)) (e ∙ sym node-count) in
       rw place (go (position sameOrder o (nodesOf b)) at (says-ltb (position sameOrder o (nodesOf b)) n))
     where

@@ -2,7 +2,7 @@
 use Prim.Native.Nat.{ℕ, _+_, _*_, _/_, _%_, _<_, _≤_}
 use native.Mathlib.Nat.{zero-add, mul-le-mul}
 use native.Mathlib.Omega.{arith}
-use mathlib.Core.Path.{_≡_, refl, sym, _∙_, ap, ap₂, subst}
+use mathlib.Core.Path.{_≡_, sym, _∙_, ap, ap₂, subst}
 use mathlib.Core.Bool.{Bool}
 use mathlib.Core.List.{List, [], _∷_, map, map-map, List·Memᴰ, Memᴰ·of-map, flatten}
 use lib.ListN.{length, take, drop, getD, length-map, length-take}
@@ -19,7 +19,7 @@ use Rattle.theory.proofs.Reflect.{decides-marks}
 use Rattle.theory.proofs.ClosureLaws.{closure-all}
 use Rattle.theory.proofs.ListLaws.{member-getD}
 use Rattle.theory.proofs.RowLaws.{getD-map, entries, flatten-length, number-fits, number-split}
-use Rattle.theory.proofs.RangeLaws.{entry-at, entry-count, flatten-more}
+use Rattle.theory.proofs.RangeLaws.{entry-at, entry-count}
 use Rattle.byte_rows.specs.Placed.{placed}
 use Rattle.byte_rows.proofs.PlacedLaws.{placed-length, part-before, part-placed}
 use Rattle.closure.specs.Work.{packMarks, statesOf, contentsOf, stateRows, StatesAre}

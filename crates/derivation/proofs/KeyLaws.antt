@@ -21,10 +21,6 @@ use Rattle.derivation.proofs.KeepLaws.{keep-same}
 digit-bound : (o : Order) (i : ℕ) → digitAt o i < 16
 digit-bound o i = mod-lt _ (lit< tt)
 
-pub key-bound : (o : Order) → keyOf o < 65536
-unfolding keyOf
-key-bound o = omega (arith, digit-bound o 0, digit-bound o 1, digit-bound o 2, digit-bound o 3)
-
 -- the lowest digit, and the number without it
 lowest : (a m : ℕ) → a < 16 → ((a + 16 * m) % 16 ≡ a) × ((a + 16 * m) / 16 ≡ m)
 lowest a m h = (add-mul-mod-self-left a 16 m ∙ mod-eq-of-lt h, add-mul-div-left a m (lit< tt) ∙ omega (arith, div-eq-of-lt h))

@@ -5,7 +5,7 @@ use native.Mathlib.Omega.{arith}
 use mathlib.Core.Path.{_≡_, sym, _∙_, ap}
 use mathlib.Core.List.{map, map-append, List·Memᴰ, Memᴰ·of-map}
 use lib.ListN.{length, getD}
-use Rattle.theory.specs.Tests.{Distinct, upFrom}
+use Rattle.theory.specs.Tests.{upFrom}
 use Rattle.theory.specs.Limits.{maxLength}
 use Rattle.theory.specs.Orders.{Order, Dependency, interesting}
 use Rattle.theory.specs.Construction.{columnsOf}
@@ -43,9 +43,6 @@ module _ (b : Bytes) where
 
 -- where the checks pass, the interesting orders are different, each of at most 4 different columns below N
 module _ (b : Bytes) (p : Passed b) where
-  pub orders-distinct : Distinct (interesting (readQuery b))
-  orders-distinct = rw interesting-read (p .distinct)
-
   pub order-columns : (o : Order) → List·Memᴰ o (interesting (readQuery b)) → (length o ≤ maxLength) × Columns (columnCount b) o
   order-columns o m =
       let t = Memᴰ·of-map (orderAt b) (upFrom 0 (orderCount b)) (rw interesting-read at m) in

@@ -7,12 +7,11 @@ use mathlib.Core.Path.{_≡_, refl, sym, _∙_, ap}
 use mathlib.Core.Bool.{Bool, true, false}
 use mathlib.Core.Logic.{⊎-elim}
 use mathlib.Core.List.{List, [], _∷_, map, List·Memᴰ, List·Memᴰ·head, List·Memᴰ·tail, List·Memᴰ·not-nil, List·Memᴰ·cases-cons, Memᴰ·cast, Memᴰ·map, Memᴰ·of-map}
-use lib.ListN.{length, take, drop, getD, drop-of-length-le, length-map}
+use lib.ListN.{length, take, drop, getD, drop-of-length-le}
 use lib.Seq.{drop-cons}
 use Rattle.theory.specs.Tests.{Decides, Distinct, empty, also, every, member, repeats, upFrom}
 use Rattle.theory.proofs.Reflect.{says-member, says-repeats, says-false, true-says, false-says, says-true}
-use Rattle.theory.proofs.ListLaws.{member-getD, getD-member, member-upFrom, upFrom-member, upFrom-length, upFrom-getD}
-use Rattle.theory.proofs.RowLaws.{getD-map}
+use Rattle.theory.proofs.ListLaws.{member-getD, getD-member, member-upFrom, upFrom-member}
 use Rattle.theory.proofs.RangeLaws.{entry-at, entry-count}
 
 -- each element from i on passes: one step, and the two ends

@@ -5,7 +5,7 @@ use native.Mathlib.Omega.{arith}
 use mathlib.Core.Path.{_≡_, sym, _∙_, ap}
 use mathlib.Core.Bool.{Bool, true}
 use mathlib.Core.Logic.{_⊎_, inl, inr, ⊎-elim}
-use lib.Bits.{bitOr, or-step, or-shr, or-lt, or-add-and, and-le-r}
+use lib.Bits.{bitOr, or-step, or-shr, or-add-and, and-le-r}
 use lib.Dec.{eqb}
 use lib.Pow.{pow-pos, pow-lt, pow-add}
 use borrow.Author.Tests.{eq-eqb}
@@ -38,9 +38,6 @@ module _ (m c : ℕ) where
   -- it is not smaller, and no longer than the bit makes it
   pub raised-more : m ≤ bitOr m (2 ^ c)
   raised-more = omega (arith, or-add-and m (2 ^ c), and-le-r m (2 ^ c))
-
-  pub raised-below : (n : ℕ) → m < 2 ^ n → c < n → bitOr m (2 ^ c) < 2 ^ n
-  raised-below n h l = or-lt n m (2 ^ c) h (pow-lt l)
 
   -- the same of the bits as tests
   pub raised-has : eqb (bitOr m (2 ^ c) / 2 ^ c % 2) 1 ≡ true

@@ -40,9 +40,6 @@ pub cut-whole : Cut whole
 cut-whole = record { again = λ o. refl; fixes = λ o t e. refl }
 
 module _ (w : ℕ → Bool) where
-  first-keep : (b : Bool) (c : ℕ) {o r : Order} → o ≡ r → keepFirst b c o ≡ keepFirst b c r
-  first-keep b c e = ap (λ r. keepFirst b c r) e
-
   keep-keep : (m n : ℕ) (o : Order) → m ≤ n → keep w m (keep w n o) ≡ keep w m o
   keep-keep zero n o h = refl
   keep-keep (suc m) zero o h = absurd (not-suc-le-zero h)

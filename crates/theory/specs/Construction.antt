@@ -1,6 +1,5 @@
 -- Document 01, "The construction": L, wanted columns, kept parts, nodes, states and their numbers, as functions that compute.
-use Prim.Native.Nat.{ℕ, zero, suc, _-_, _<_, max}
-use mathlib.Core.Path.{_≡_}
+use Prim.Native.Nat.{ℕ, zero, suc, _-_, max}
 use mathlib.Core.Bool.{Bool, true, false, Bool·beq}
 use mathlib.Core.List.{List, [], _∷_, _++_, map, dropLast, List·Memᴰ, flatten}
 use lib.Dec.{eqb}

@@ -1,5 +1,5 @@
 -- Document 01, "What the listing prints": the listing's bytes for a query's bytes.
-use Prim.Native.Nat.{ℕ, zero, suc, _+_, _*_, _/_, _%_}
+use Prim.Native.Nat.{ℕ, zero, suc, _+_, _/_, _%_}
 use mathlib.Core.List.{[], _∷_, _++_, map, flatten}
 use lib.Dec.{ltb}
 use Rattle.theory.specs.Tests.{pick, upFrom}

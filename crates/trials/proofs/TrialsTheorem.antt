@@ -14,7 +14,7 @@ use Rattle.theory.specs.Machine.{numberedWithin}
 use Rattle.theory.specs.Construction.{nodes, State, states, wantedColumns, kept, steps, keptSteps, startState, takeSet, holdsIn, sizesOf, construction}
 use Rattle.theory.specs.Refusals.{passed}
 use Rattle.theory.specs.Query.{Bytes, readQuery, sizesRefusal, bodyRefusal, orderRefusal, dependencyRefusal, itemRefusal, twinRefusal, queryRefusal}
-use Rattle.theory.specs.Table.{tableOf, writeTable, statesIn}
+use Rattle.theory.specs.Table.{Table, tableOf, writeTable, statesIn}
 use Rattle.theory.specs.Build.{Outcome, refused, built, construct, outcome}
 use Rattle.trials.specs.Trials.{Trial, Expectation, table, builds, refusal, state-count, after, same-state, sameOutcome, outcomeOf, Builds, hasSizes, Admitted, isAdmitted, Run, isRun, stateAfter, comesOut, passes, Meets, trials}
 use Rattle.theory.proofs.Reflect.{says-true, false-says, says-every, says-by, says-as, says-and, says-not, says-eqb, says-ltb, decides-list, decides-number, decides-marks, decides-bool}
@@ -45,8 +45,8 @@ built-states query t n b =
     record {
       things = states q (nodes q);
       different = numbered-distinct m (sizesOf q) decides-marks maxStates;
-      count = ap statesIn (sym (b .bytes-are));
-      each = numbered-exactly m (sizesOf q) decides-marks maxStates (b .within .few-states);
+      count = sym (ap statesIn (b .bytes-are) ∙ ap (λ (k : Table). k .stateCount) (b .made .table-is));
+      each = numbered-exactly m (sizesOf q) decides-marks maxStates (b .made .within .few-states);
     }
 
 -- what the tests of sizes, of a query and of a run say
