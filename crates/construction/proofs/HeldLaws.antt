@@ -15,6 +15,7 @@ use Rattle.theory.specs.Construction.{Marks, marked, holdsIn}
 use Rattle.theory.specs.Query.{Bytes, orderCount, orderAt, readQuery}
 use Rattle.theory.specs.Table.{bit, number}
 use Rattle.theory.proofs.Reflect.{says-ltb, decides-number, decides-order}
+use Rattle.theory.proofs.PositionLaws.{position-map}
 use Rattle.theory.proofs.NodeLaws.{nodes-distinct}
 use Rattle.theory.proofs.RowLaws.{getD-map, entries, number-fits}
 use Rattle.theory.proofs.RangeLaws.{entry-at, entry-count}

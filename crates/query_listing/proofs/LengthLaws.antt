@@ -44,6 +44,7 @@ joined s t = record { short = rw length-append (omega arith) }
 
 -- at most k pieces, each of at most w bytes
 pieces : (piece : ℕ → Bytes) (w : ℕ) (l : List ℕ) → ((x : ℕ) → List·Memᴰ x l → Short (piece x) w) → length (flatten (map piece l)) ≤ length l * w
+unfolding flatten
 pieces piece w [] h = omega arith
 pieces piece w (x ∷ l) h =
     rw (suc-mul, length-append) (omega (arith, h x (List·Memᴰ·head refl) .short, pieces piece w l (λ y m. h y (List·Memᴰ·tail m))))

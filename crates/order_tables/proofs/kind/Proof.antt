@@ -16,8 +16,11 @@ enum-known-rule-2 c = search needs
 returns : tie.Need-returns
 returns c = rw (c .before .before .rule .given .1, length-take) (search needs)
 
+cast-result : tie.Need-cast-result
+cast-result c = search needs
+
 returns-2 : tie.Need-returns-2
 returns-2 c = search needs
 
 pub kind-spec : {M : Type 1} → statement M
-kind-spec = tie.close (tie.spec enum-known-rule lefts-requires enum-known-rule-2 returns returns-2)
+kind-spec = tie.close (tie.spec enum-known-rule lefts-requires enum-known-rule-2 cast-result returns returns-2)

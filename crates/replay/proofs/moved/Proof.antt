@@ -3,6 +3,7 @@ use native.Mathlib.Omega.{arith}
 use mathlib.Core.Path.{refl}
 use borrow.Author.Tests.{ne-eqb}
 use borrow.Author.Needs.{needs}
+use Rattle.lookup.proofs.LookupLaws.{refusal-some}
 use Rattle.replay.proofs.moved.Statement.{statement}
 use Rattle.replay.proofs.moved.Tie as tie
 
@@ -19,7 +20,7 @@ returns-2 : tie.Need-returns-2
 returns-2 c =
     let told = c .before .answer2 .given .1 in
     let listed = rw told at (c .before .before .before .pre) in
-    rw told (record { refusal-is = refl; value-is = refl; state-is = rw (ne-eqb (c .before .answer2 .given .0 .0) 0 (λ e. omega arith)) })
+    rw told (record { refusal-is = refl; value-is = refl; state-is = rw (ne-eqb (c .before .answer2 .given .0 .0) 0 (λ e. omega (arith, refusal-some _ listed))) })
 
 pub moved-spec : {M : Type 1} → statement M
 moved-spec = tie.close (tie.spec enum-known-answer enum-known-answer-2 returns returns-2)

@@ -1,5 +1,5 @@
 -- The proof of the cycle of calls {number_of}. The measure is k. The last digit stands alone, or behind those of the tenth part.
-use Prim.Native.Nat.{ℕ}
+use Prim.Native.Nat.{ℕ, _<_}
 use native.Mathlib.Omega.{arith}
 use mathlib.Core.Path.{_≡_}
 use borrow.Author.Needs.{needs}
