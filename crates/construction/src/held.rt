@@ -10,7 +10,7 @@ ghost use mathlib.Core.List.{[], _∷_, map};
 ghost use Prim.Native.Nat.{_+_, _*_, _/_, _%_, _≤_, _<_};
 ghost use lib.ListN.{length, take};
 ghost use Rattle.theory.specs.Construction.{Marks};
-ghost use Rattle.theory.specs.Limits.{maxStates};
+ghost use Rattle.theory.specs.Limits.{maxNodes, maxStates};
 ghost use Rattle.theory.specs.Table.{bit};
 ghost use Rattle.theory.specs.Scratch.{heldPart, workLength};
 ghost use Rattle.orders.specs.Orders.{orderOf};
@@ -21,7 +21,7 @@ ghost use Rattle.construction.specs.Held.{NodesListed, holdsKey, heldWor
 
 // Whether an order is a node that is marked.
 fn holds(nodes: &[u16], n: usize, marks: &[u8], o: Order) -> bool
-    requires { ⌜ (n ≤ length (now nodes)) × (n ≤ 256) × (length (now marks) ≡ 32) ⌝ }
+    requires { ⌜ (n ≤ length (now nodes)) × (n ≤ maxNodes) × (length (now marks) ≡ 32) ⌝ }
     ensures { λ r. ⌜ r ≡ holdsKey n (take n (now (nodes .entry))) (now (marks .entry)) (keyOf (orderOf o)) ⌝ }
 {
     let at = find(nodes, n, key(o));

@@ -6,6 +6,7 @@ use numbers::limits::MAX_STATES;
 use numbers::refusals::ORDERINGS;
 use numbers::refusals::PASSED;
 use numbers::refusals::STATES;
+use numbers::scratch::STARTS_LENGTH;
 use numbers::scratch::STARTS_PART;
 ghost use mathlib.Core.Path.{_≡_};
 ghost use Prim.Native.Nat.{_≤_};
@@ -46,7 +47,7 @@ fn with_nodes(
     requires { ⌜ Ready (now query) (now nodes) n wanted longest × (scratchLength ≤ length (now work)) ⌝ }
     ensures { λ r. ⌜ Leaves (construct (readQuery (now (query .entry)))) (now (work .exit)) r × (length (now (work .exit)) ≡ length (now (work .entry))) ⌝ }
 {
-    let mut starts = [0u8; 8];
+    let mut starts = [0u8; STARTS_LENGTH];
     let q = states::number(query, nodes, n, work, &mut starts, wanted, longest);
     if MAX_STATES < q {
         return refused(STATES);
@@ -67,7 +68,7 @@ pub fn construct(query: &[u8], work: &mut [u8]) -> Constructed
 {
     let columns = wanted::wanted(query);
     let longest = wanted::longest(query);
-    let mut list = [0u16; 256];
+    let mut list = [0u16; MAX_NODES];
     let n = nodes::list(query, &mut list, columns, longest);
     if MAX_NODES < n {
         return refused(ORDERINGS);

@@ -39,8 +39,13 @@ pub const LONGEST_TABLE: usize = 1292;
 // A lookup's answer as one number is so many times the refusal's number plus the value.
 pub const REFUSAL_UNIT: u32 = 65536;
 
-// The longest listing: the counts, 21 bytes; 8 starts of 14; and 128 states of 58.
+// The longest listing: the counts, 21 bytes; 8 starts of 14; and 128 states of 58. The longest line of a refusal.
 pub const LONGEST_LISTING: usize = 7557;
+
+pub const LONGEST_REFUSAL: usize = 12;
+
+// No query is longer than 165 bytes: the first 256 of a longer input are refused as the whole is.
+pub const INPUT_FRONT: usize = 256;
 
 // The least scratch that a build takes.
 pub const SCRATCH_LENGTH: usize = 16384;

@@ -13,7 +13,11 @@ abbrev pub Within : Input → ℕ → Type 0
 Within (input.Front n) most = n ≤ most
 Within input.Failed most = Unit {0}
 
--- The text begins with the listing of these bytes, and with that of every input whose first 256 bytes they are.
+-- So many bytes of an input are read.
+abbrev pub inputFront : ℕ
+inputFront = 256
+
+-- The text begins with the listing of these bytes, and with that of every input whose first bytes they are.
 pub record Lists (front text : Bytes) (count : ℕ) : Type 0 where
   pub own : Listing (listing front) text count
-  pub longer : (whole : Bytes) → take 256 whole ≡ front → Listing (listing whole) text count
+  pub longer : (whole : Bytes) → take inputFront whole ≡ front → Listing (listing whole) text count

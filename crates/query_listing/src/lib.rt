@@ -1,4 +1,5 @@
 // The listing of a query, written into a lent text.
+use numbers::limits::LONGEST_REFUSAL;
 use numbers::limits::LONGEST_TABLE;
 use numbers::limits::SCRATCH_LENGTH;
 use numbers::refusals::PASSED;
@@ -62,7 +63,7 @@ fn hand_over(bytes: &[u8], text: &mut [u8]) -> Listed
 fn list_refusal(refusal: u8, text: &mut [u8]) -> Listed
     ensures { λ r. ⌜ Handed (refusedLine refusal) (now (text .entry)) (now (text .exit)) r ⌝ }
 {
-    let mut line = [0u8; 12];
+    let mut line = [0u8; LONGEST_REFUSAL];
     let n = listing::refused(refusal, &mut line);
     hand_over(&line[..n], text)
 }
