@@ -59,5 +59,5 @@ abbrev pub lines : (ℕ → Bytes) → ℕ → Bytes
 lines line n = flatten (map line (upFrom 0 n))
 
 -- The end of a state's line.
-abbrev pub heldPart : Bytes → ℕ → Bytes
-heldPart t state = heldLabel ++ (decimal (heldNumber t state) ++ lineEnd)
+abbrev pub heldField : Bytes → ℕ → Bytes
+heldField t state = heldLabel ++ (decimal (heldNumber t state) ++ lineEnd)

@@ -6,7 +6,7 @@ ghost use Rattle.theory.specs.Limits.{maxNodes, maxSets};
 ghost use Rattle.theory.specs.Table.{statesIn, producedIn};
 ghost use Rattle.theory.specs.Listing.{spaced, countsLine, startLine, stateLine};
 ghost use Rattle.table.specs.Form.{Formed};
-ghost use Rattle.listing.specs.Text.{longestCounts, longestStart, longestStarts, longestRow, longestHeld, longestState, longestStates, Wrote, lines, heldPart};
+ghost use Rattle.listing.specs.Text.{longestCounts, longestStart, longestStarts, longestRow, longestHeld, longestState, longestStates, Wrote, lines, heldField};
 use crate::text::number;
 use crate::text::number_of;
 use crate::text::spaced_number;
@@ -70,9 +70,9 @@ fn row_numbers(row: &[u8], text: &mut [u8], at: usize) -> usize
 }
 
 // The end of a state's line: its held bits.
-fn held_part(table: &[u8], state: usize, text: &mut [u8], at: usize) -> usize
+fn held_field(table: &[u8], state: usize, text: &mut [u8], at: usize) -> usize
     requires { ⌜ Formed (now table) × (state < statesIn (now table)) × (at + longestHeld ≤ length (now text)) ⌝ }
-    ensures { λ r. ⌜ Wrote (now (text .entry)) at (heldPart (now (table .entry)) state) longestHeld (now (text .exit)) r ⌝ }
+    ensures { λ r. ⌜ Wrote (now (text .entry)) at (heldField (now (table .entry)) state) longestHeld (now (text .exit)) r ⌝ }
 {
     let first = word(text, at, b" held ");
     let end = number_of(text, first, 5, held_number(table, state));
@@ -88,7 +88,7 @@ fn state_line(table: &[u8], state: usize, text: &mut [u8], at: usize) -> usize
     let second = number(text, first, state);
     let third = word(text, second, b" next");
     let end = row_numbers(successors(table, state), text, third);
-    held_part(table, state, text, end)
+    held_field(table, state, text, end)
 }
 
 // All states.

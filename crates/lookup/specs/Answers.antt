@@ -30,9 +30,9 @@ abbrev pub AskRefusal : ℕ → Type 0
 AskRefusal n = (n ≡ length-refused) ⊎ (n ≡ size-refused) ⊎ (n ≡ handle-refused)
 
 -- A refusal's number is one of those.
-abbrev pub Listed : Moved → Type 0
-Listed (moved.To m) = Unit
-Listed (moved.Refused n) = MoveRefusal n
+abbrev pub ListedMove : Moved → Type 0
+ListedMove (moved.To m) = Unit
+ListedMove (moved.Refused n) = MoveRefusal n
 
 abbrev pub ListedAsk : Asked → Type 0
 ListedAsk asked.Held = Unit

@@ -6,7 +6,7 @@ ghost use Prim.Native.Nat.{_+_, _/_, _<_, _≤_};
 ghost use Rattle.theory.specs.Limits.{maxProduced, maxTested};
 ghost use Rattle.theory.specs.Table.{statesIn, heldBit, grant, enter, takeIn, ask, row, rowRefusal};
 ghost use Rattle.table.specs.Form.{Formed};
-ghost use Rattle.lookup.specs.Answers.{refusalUnit, MoveRefusal, answerOf, heldOf, Listed, ListedAsk, decoded};
+ghost use Rattle.lookup.specs.Answers.{refusalUnit, MoveRefusal, answerOf, heldOf, ListedMove, ListedAsk, decoded};
 use numbers::limits;
 use numbers::refusals;
 use table::OrderHandle;
@@ -35,7 +35,7 @@ pub enum Asked {
 fn decoded(code: u32) -> Moved
     requires { ⌜ (code < refusalUnit → code < 256) × (refusalUnit ≤ code → MoveRefusal (code / refusalUnit)) ⌝ }
     ensures { λ r. ⌜ answerOf r ≡ decoded code ⌝ }
-    ensures { λ r. ⌜ Listed r ⌝ }
+    ensures { λ r. ⌜ ListedMove r ⌝ }
 {
     if code < limits::REFUSAL_UNIT {
         Moved::To(Mark {
@@ -49,7 +49,7 @@ fn decoded(code: u32) -> Moved
 // Enter by a produced order: 1, 2, 1, then 10, then 11.
 pub fn enter(table: &[u8], order: OrderHandle) -> Moved
     ensures { λ r. ⌜ answerOf r ≡ enter (now (table .entry)) (order .0) ⌝ }
-    ensures { λ r. ⌜ Listed r ⌝ }
+    ensures { λ r. ⌜ ListedMove r ⌝ }
 {
     decoded(codes::enter(table, order))
 }
@@ -90,7 +90,7 @@ impl Mark {
     // Take a set: 1, 2, 1, then 10, then 11.
     pub fn take(self, table: &[u8], set: SetHandle) -> Moved
         ensures { λ r. ⌜ answerOf r ≡ takeIn (now (table .entry)) (self .state .0) (set .0) ⌝ }
-        ensures { λ r. ⌜ Listed r ⌝ }
+        ensures { λ r. ⌜ ListedMove r ⌝ }
     {
         decoded(codes::take(table, self.state, set))
     }

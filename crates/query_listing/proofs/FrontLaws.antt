@@ -17,7 +17,7 @@ use Rattle.theory.specs.Listing.{listing, listed}
 use Rattle.theory.proofs.Reflect.{says-ltb}
 use Rattle.theory.proofs.RefusalLaws.{neither, or-passed}
 use Rattle.theory.proofs.QueryLaws.{sizes-fit}
-use Rattle.query_check.specs.Sizes.{sizesOf}
+use Rattle.query_check.specs.Sizes.{refusalOfSizes}
 
 -- alike behind a test where they are alike when it does not refuse
 pick-alike : (t : Bool) (x : ℕ) {y z : ℕ} → (t ≡ false → y ≡ z) → pick t x y ≡ pick t x z
@@ -25,8 +25,8 @@ pick-alike true x h = refl
 pick-alike false x h = h refl
 
 -- no sizes imply as many as 166 bytes: all numbers of bytes from there on are refused alike
-sizes-long : (x y n p t s d : ℕ) → 166 ≤ x → 166 ≤ y → sizesOf x n p t s d ≡ sizesOf y n p t s d
-unfolding sizesOf
+sizes-long : (x y n p t s d : ℕ) → 166 ≤ x → 166 ≤ y → refusalOfSizes x n p t s d ≡ refusalOfSizes y n p t s d
+unfolding refusalOfSizes
 sizes-long x y n p t s d hx hy =
     rw (le-ltb x 5 (omega arith), le-ltb y 5 (omega arith))
     (pick-alike (outside 1 12 n) size-refused
@@ -44,7 +44,7 @@ module _ (b : Bytes) (h : 166 ≤ length b) where
   front-long = rw length-take (omega arith)
 
   sizes-front : sizesRefusal (take 256 b) ≡ sizesRefusal b
-  unfolding sizesRefusal sizesOf
+  unfolding sizesRefusal refusalOfSizes
   sizes-front =
       rw (getD-take 256 b 0 0 (omega arith), getD-take 256 b 1 0 (omega arith), getD-take 256 b 2 0 (omega arith), getD-take 256 b 3 0 (omega arith), getD-take 256 b 4 0 (omega arith))
       (sizes-long (length (take 256 b)) (length b) (byteAt b 0) (byteAt b 1) (byteAt b 2) (byteAt b 3) (byteAt b 4) front-long h)

@@ -1,7 +1,8 @@
 -- What is answered, and what stands in the text, where it takes the listing and where it does not.
-use Prim.Native.Nat.{_≤_, _<_}
+use Prim.Native.Nat.{ℕ, _≤_, _<_}
 use native.Mathlib.Nat.{zero-add}
-use mathlib.Core.Path.{_≡_, _∙_}
+use native.Mathlib.Omega.{arith}
+use mathlib.Core.Path.{_≡_, _∙_, subst}
 use mathlib.Core.Logic.{_≢_}
 use mathlib.Core.List.{[]}
 use lib.ListN.{length}
@@ -15,14 +16,18 @@ use Rattle.theory.specs.Listing.{listing}
 use Rattle.query_listing.specs.Listed.{listRefusal, answerOf, textAfter, Handed}
 use Rattle.query_listing.specs.declared.Listed.{Listed}
 
-module _ (l text : Bytes) where
-  pub text-short : length text < length l → {r : Listed} → r ≡ answerOf [] space-refused → Handed l text text r
+module _ (l text : Bytes) {n : ℕ} (e : length l ≡ n) where
+  pub text-short : length text < n → {r : Listed} → r ≡ answerOf [] space-refused → Handed l text text r
   unfolding textAfter
-  text-short h a = record { answer = rw (lt-ltb (length text) (length l) h) a; text = rw (lt-ltb (length text) (length l) h) }
+  text-short h a =
+      let f = lt-ltb (length text) (length l) (omega arith) in
+      record { answer = rw f a; text = rw f }
 
-  pub text-whole : length l ≤ length text → {after : Bytes} → after ≡ paste text 0 l (length l) → Handed l text after (record { refusal = 0; length = length l })
+  pub text-whole : n ≤ length text → {after : Bytes} → after ≡ paste text 0 l (length l) → Handed l text after (record { refusal = 0; length = n })
   unfolding textAfter
-  text-whole h e = record { answer = rw (le-ltb (length text) (length l) h); text = rw (le-ltb (length text) (length l) h) (e ∙ rw (take-length l, zero-add)) }
+  text-whole h {after} w =
+      let f = le-ltb (length text) (length l) (omega arith) in
+      subst (λ k. Handed l text after (record { refusal = 0; length = k })) e (record { answer = rw f; text = rw f (w ∙ rw (take-length l, zero-add)) })
 
 -- the same of the whole call: checks 1 to 6, then 9 for scratch, then the listing in the scratch
 module _ (query scratch text : Bytes) where

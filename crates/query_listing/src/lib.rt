@@ -6,7 +6,8 @@ use numbers::refusals::PASSED;
 use numbers::refusals::SPACE;
 ghost use mathlib.Core.Path.{_≡_};
 ghost use mathlib.Core.List.{[]};
-ghost use lib.ListN.{length};
+ghost use Prim.Native.Nat.{_≤_};
+ghost use lib.ListN.{length, take};
 ghost use Rattle.theory.specs.Limits.{scratchLength};
 ghost use Rattle.theory.specs.Refusals.{space-refused};
 ghost use Rattle.theory.specs.Build.{scratchAfter, zeroed};
@@ -44,15 +45,15 @@ fn write_listing(query: &[u8], work: &mut [u8]) -> usize
     listing::list(&table[..length], built.nodes, work)
 }
 
-// A listing's bytes into the text, or 9 where the text is shorter.
-fn hand_over(bytes: &[u8], text: &mut [u8]) -> Listed
-    ensures { λ r. ⌜ Handed (now (bytes .entry)) (now (text .entry)) (now (text .exit)) r ⌝ }
+// A listing, the first n bytes, into the text, or 9 where the text is shorter.
+fn hand_over(bytes: &[u8], n: usize, text: &mut [u8]) -> Listed
+    requires { ⌜ n ≤ length (now bytes) ⌝ }
+    ensures { λ r. ⌜ Handed (take n (now (bytes .entry))) (now (text .entry)) (now (text .exit)) r ⌝ }
 {
-    let n = bytes.len();
     if text.len() < n {
         return no_room();
     }
-    byte_rows::copy(text, 0, bytes);
+    byte_rows::copy(text, 0, byte_rows::part(bytes, 0, n));
     Listed {
         refusal: PASSED,
         length: n,
@@ -65,7 +66,7 @@ fn list_refusal(refusal: u8, text: &mut [u8]) -> Listed
 {
     let mut line = [0u8; LONGEST_REFUSAL];
     let n = listing::refused(refusal, &mut line);
-    hand_over(&line[..n], text)
+    hand_over(&line, n, text)
 }
 
 // The listing, made in the work memory and handed over into the text; the work memory is cleared behind it.
@@ -74,7 +75,7 @@ fn list_cleared(query: &[u8], work: &mut [u8], text: &mut [u8]) -> Listed
     ensures { λ r. ⌜ Handed (listing (now (query .entry))) (now (text .entry)) (now (text .exit)) r × (now (work .exit) ≡ zeroed (length (now (work .entry))) (now (work .entry))) ⌝ }
 {
     let n = write_listing(query, work);
-    let listed = hand_over(&work[..n], text);
+    let listed = hand_over(work, n, text);
     byte_rows::clear(work);
     listed
 }

@@ -5,7 +5,7 @@ ghost use lib.ListN.{length};
 ghost use Rattle.theory.specs.Build.{outcome, outputAfter, scratchAfter};
 ghost use Rattle.theory.specs.Lookups.{passOn};
 ghost use Rattle.builder.specs.Built as built;
-ghost use Rattle.lookup.specs.Answers.{answerOf, heldOf, Listed};
+ghost use Rattle.lookup.specs.Answers.{answerOf, heldOf, ListedMove};
 ghost use Rattle.replay.specs.Replay.{lookupOf, answerTo, stateAfter, replayed, lookupsAfter, Modelled};
 ghost use Rattle.replay.specs.Answered.{Gives, lookupAt, answeredAt};
 use builder::Built;
@@ -26,7 +26,7 @@ struct Answered {
 
 // An entry or a take: where it is granted its mark goes on, else the mark before it.
 fn moved(answer: Moved, before: Mark) -> Answered
-    requires { ⌜ Listed answer ⌝ }
+    requires { ⌜ ListedMove answer ⌝ }
     ensures { λ r. ⌜ Gives (answerOf answer) (passOn (answerOf answer) (before .state .0)) r ⌝ }
 {
     match answer {

@@ -148,18 +148,18 @@ module _ {A : Type 0} {same : A → A → Bool} (dec : Decides same) (x : A) whe
 
 -- f tells x from the things of a list
 module _ {A B : Type 0} {same : A → A → Bool} {sameB : B → B → Bool} (dec : Decides same) (decB : Decides sameB) (f : A → B) (x : A) where
-  abbrev Tells : List A → Type 0
-  Tells l = (y : A) → List·Memᴰ y l → f x ≡ f y → x ≡ y
+  abbrev ToldApart : List A → Type 0
+  ToldApart l = (y : A) → List·Memᴰ y l → f x ≡ f y → x ≡ y
 
-  spot-map : {l : List A} {n : ℕ} → Spot x l n → Tells l → Spot (f x) (map f l) n
+  spot-map : {l : List A} {n : ℕ} → Spot x l n → ToldApart l → Spot (f x) (map f l) n
   spot-map none t = none
   spot-map (found e) t = found (ap f e)
   spot-map (later {y} n s) t = later (λ e. n (t y (List·Memᴰ·head refl) e)) (spot-map s (λ z m. t z (List·Memᴰ·tail m)))
 
-  pub position-map : (l : List A) → Tells l → position sameB (f x) (map f l) ≡ position same x l
+  pub position-map : (l : List A) → ToldApart l → position sameB (f x) (map f l) ≡ position same x l
   position-map l t = spot-one (spot decB (f x) (map f l)) (spot-map (spot dec x l) t)
 
-  pub add-map : (l : List A) → Tells l → add sameB (map f l) (f x) ≡ map f (add same l x)
+  pub add-map : (l : List A) → ToldApart l → add sameB (map f l) (f x) ≡ map f (add same l x)
   add-map l t = go (says-member dec x l)
     where
       go : {b : Bool} → Says (List·Memᴰ x l) b → add sameB (map f l) (f x) ≡ map f (elim b as (λ (c : Bool). List A) [ true ↦ l | false ↦ l ++ (x ∷ []) ])

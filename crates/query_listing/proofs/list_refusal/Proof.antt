@@ -1,8 +1,6 @@
 -- `query_listing::list_refusal` meets its contract: the line is made apart and handed over.
-use mathlib.Core.Path.{sym, _∙_, ap, subst}
+use mathlib.Core.Path.{subst}
 use denote.Ref.{now}
-use lib.Seq.{length-take-le}
-use native.Mathlib.Omega.{arith}
 use Rattle.query_listing.specs.Listed.{Handed}
 use borrow.Author.Needs.{needs}
 use Rattle.query_listing.proofs.list_refusal.Statement.{statement}
@@ -14,11 +12,8 @@ slice-aggregate-refused c = search needs
 refused-requires : tie.Need-refused-requires
 refused-requires c κs = search needs
 
-array-share-prefix-line : tie.Need-array-share-prefix-line
-array-share-prefix-line c = search needs
-
 slice-aggregate-hand-over : tie.Need-slice-aggregate-hand-over
-slice-aggregate-hand-over c = let w = c .before .before .refused in sym (length-take-le (w .result) (w .last .1 .0) (omega arith))
+slice-aggregate-hand-over c = search needs
 
 hand-over-requires : tie.Need-hand-over-requires
 hand-over-requires c κs = search needs
@@ -28,7 +23,7 @@ same-length c = search needs
 
 returns : tie.Need-returns
 returns c = let h = c .before .before in let w = h .before .before .before .before .refused in let s = h .before .before .before .before .before .before .before in
-    subst (λ l. Handed l (now (s .args .text)) (h .hand-over .last .1 .0) (h .hand-over .result)) (w .ensures .first) (h .hand-over .ensures)
+    subst (λ l. Handed l (now (s .args .text)) (h .hand-over .last .1 .1 .0) (h .hand-over .result)) (w .ensures .first) (h .hand-over .ensures)
 
 pub list-refusal-spec : {M : Type 1} → statement M
 list-refusal-spec =
@@ -36,7 +31,6 @@ list-refusal-spec =
     (tie.spec
     slice-aggregate-refused
     refused-requires
-    array-share-prefix-line
     slice-aggregate-hand-over
     hand-over-requires
     same-length

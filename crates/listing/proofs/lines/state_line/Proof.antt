@@ -26,8 +26,8 @@ successors-requires c κs = search needs
 row-numbers-requires : tie.Need-row-numbers-requires
 row-numbers-requires c κs = search needs
 
-held-part-requires : tie.Need-held-part-requires
-held-part-requires c κs = search needs
+held-field-requires : tie.Need-held-field-requires
+held-field-requires c κs = search needs
 
 same-length : tie.Need-same-length
 same-length c = search needs
@@ -41,7 +41,7 @@ returns c =
     let state = next .before .before .before .before .before in
     rw (← row .before .before .successors .ensures .0)
     (wrote-on (state .before .before .before .before .word .ensures)
-    (wrote-on (state .number .ensures) (wrote-on (next .word2 .ensures) (wrote-on (row .row-numbers .ensures) (end .held-part .ensures)))))
+    (wrote-on (state .number .ensures) (wrote-on (next .word2 .ensures) (wrote-on (row .row-numbers .ensures) (end .held-field .ensures)))))
 
 pub state-line-spec : {M : Type 1} → statement M
 state-line-spec =
@@ -54,6 +54,6 @@ state-line-spec =
     word-requires-2
     successors-requires
     row-numbers-requires
-    held-part-requires
+    held-field-requires
     same-length
     returns)

@@ -1,8 +1,8 @@
--- `listing::lines::held_part` meets its contract: its three pieces, one behind the other.
+-- `listing::lines::held_field` meets its contract: its three pieces, one behind the other.
 use borrow.Author.Needs.{needs}
 use Rattle.listing.proofs.TextLaws.{wrote-on}
-use Rattle.listing.proofs.lines.held_part.Statement.{statement}
-use Rattle.listing.proofs.lines.held_part.Tie as tie
+use Rattle.listing.proofs.lines.held_field.Statement.{statement}
+use Rattle.listing.proofs.lines.held_field.Tie as tie
 
 slice-aggregate-word : tie.Need-slice-aggregate-word
 slice-aggregate-word c = search needs
@@ -31,8 +31,8 @@ returns c =
     let number = end .before .before .before .before .before in
     rw (← number .before .held-number .ensures) (wrote-on (number .before .before .before .before .before .word .ensures) (wrote-on (number .number-of .ensures) (end .word2 .ensures)))
 
-pub held-part-spec : {M : Type 1} → statement M
-held-part-spec =
+pub held-field-spec : {M : Type 1} → statement M
+held-field-spec =
     tie.close
     (tie.spec
     slice-aggregate-word
