@@ -133,7 +133,7 @@ fn offset(produced: usize, state: usize, sets: usize) -> u32
 pub extern "C" fn order_table_row(table: &[u8], state: u8) -> u32
     ensures { λ r. ⌜ r ≡ rowCode (now (table .entry)) state ⌝ }
 {
-    let mut refusal: u8 = 0;
+    let mut refusal = PASSED;
     lookup::row_of(table, StateNumber(state), &mut refusal);
     if refusal != PASSED {
         return codes::refused(refusal);

@@ -114,7 +114,7 @@ pub fn replay(query: &[u8], scratch: &mut [u8], output: &mut [u8], lookups: &mut
     ensures { λ r. ⌜ Modelled (now (query .entry)) (length (now (scratch .entry))) (length (now (output .entry))) (now (lookups .entry)) (now (lookups .exit)) ⌝ }
 {
     let built = builder::build(query, scratch, output);
-    if built.refusal != 0 {
+    if built.refusal != PASSED {
         return built;
     }
     let n = built.length;

@@ -19,7 +19,7 @@ same-length c = search needs
 returns : tie.Need-returns
 returns c = let s = c .before .before .before .before .before .before .before .before in
     let e = c .before .before .before .list .ensures in
-    lists (now (s .args .front)) (room-listed (now (s .args .front)) (now (s .args .text)) 16384 (omega arith) (s .pre) (e .0) (e .1 .0))
+    lists (now (s .args .front)) (room-listed (now (s .args .front)) (now (s .args .text)) _ (omega arith) (s .pre) (e .0) (e .1 .0))
 
 pub answer-spec : {M : Type 1} → statement M
 answer-spec = tie.close (tie.spec slice-aggregate-list list-requires same-length returns)
