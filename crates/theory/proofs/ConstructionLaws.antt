@@ -12,7 +12,7 @@ use Rattle.theory.specs.Closure.{More, closure}
 use Rattle.theory.specs.Machine.{Machine, runs, numberedWithin}
 use Rattle.theory.specs.Construction.{Node, Marks, sameMarks, startState, takeSet, State, nodes, states, sizesOf, holdsIn, construction}
 use Rattle.theory.specs.Refusals.{passed}
-use Rattle.theory.specs.Table.{Table, Sized, tableOf, writeTable, tableRefusal}
+use Rattle.theory.specs.Table.{Table, Sized, Numbered, tableOf, countsOf, numbersOf, writeTable, tableRefusal}
 use Rattle.theory.specs.Build.{Constructs, its-table, table, queryTable}
 use Rattle.theory.specs.Lookups.{Tells, Faithful}
 use Rattle.theory.proofs.Reflect.{false-says, decides-marks}
@@ -21,8 +21,8 @@ use Rattle.theory.proofs.RowLaws.{getD-map, entries}
 use Rattle.theory.proofs.NodeLaws.{nodes-exactly, nodes-many}
 use Rattle.theory.proofs.StateLaws.{says-held}
 use Rattle.theory.proofs.MachineLaws.{numbered-exactly}
-use Rattle.theory.proofs.MachineTable.{Limited, Enumerated, table-sized}
-use Rattle.theory.proofs.Faithfulness.{faithful-table, table-passes}
+use Rattle.theory.proofs.MachineTable.{Limited, Enumerated, table-sized, table-numbered}
+use Rattle.theory.proofs.Faithfulness.{numbers-tell, faithful-table, table-passes}
 use Rattle.theory.proofs.BuildLaws.{states-many}
 
 -- the starts by number are those of the produced orders, so the states are numbered from these
@@ -83,6 +83,14 @@ module _ {q : Query} {t : Table} {n : ℕ} (limits : Limited (sizesOf q)) (d : M
   pub made-sized : Sized t
   made-sized = subst Sized (sym (d .table-is)) (table-sized machine (sizesOf q) (states q (nodes q)) limits known)
 
+  pub made-numbered : Numbered t
+  made-numbered = subst Numbered (sym (d .table-is)) (table-numbered machine (sizesOf q) (states q (nodes q)) limits known)
+
+  -- the table's numbers, and its bytes, tell the query's derivation
+  pub made-tells : Tells q (numbersOf t)
+  made-tells =
+      subst (λ k. Tells q (numbersOf k)) (sym (d .table-is)) (numbers-tell q machine (states q (nodes q)) limits known (construction-tells q (d .within)))
+
   pub made-faithful : Faithful q (writeTable t)
   made-faithful =
       subst (λ k. Faithful q (writeTable k)) (sym (d .table-is)) (faithful-table q machine (states q (nodes q)) limits known (construction-tells q (d .within)))
@@ -94,3 +102,7 @@ module _ {q : Query} {t : Table} {n : ℕ} (limits : Limited (sizesOf q)) (d : M
   pub made-counts : (t .producedCount ≡ length (q .produced)) × (t .testedCount ≡ length (q .tested)) × (t .setCount ≡ q .sets)
   unfolding tableOf
   made-counts = rw (d .table-is) (refl, refl, refl)
+
+  pub made-sizes : countsOf t ≡ sizesOf q
+  unfolding tableOf
+  made-sizes = rw (d .table-is) refl

@@ -5,13 +5,13 @@ use native.Mathlib.Omega.{arith}
 use mathlib.Core.Path.{_≡_, sym, _∙_, ap, subst}
 use mathlib.Core.List.{List, _∷_}
 use lib.ListN.{length}
-use Rattle.theory.specs.Limits.{maxProduced, maxTested, maxSets}
+use Rattle.theory.specs.Limits.{maxProduced, maxTested, maxSets, scratchLength}
 use Rattle.theory.specs.Orders.{Order}
 use Rattle.theory.specs.Construction.{sizesOf}
 use Rattle.theory.specs.Refusals.{passed}
 use Rattle.theory.specs.Query.{Bytes, readQuery, queryRefusal}
 use Rattle.theory.specs.Table.{Table, writeTable, tableRefusal, readTable}
-use Rattle.theory.specs.Build.{queryTable, Outcome, refused, built, outcome, Means, query-refused, scratch-short, not-constructed, output-short, table-built}
+use Rattle.theory.specs.Build.{table, Constructs, queryTable, Outcome, refused, built, outcome, Means, query-refused, scratch-short, not-constructed, output-short, table-built}
 use Rattle.theory.specs.Lookups.{Lookup, entry, run, Answers, Faithful}
 use Rattle.theory.proofs.RowTheorem.{row-theorem}
 use Rattle.theory.proofs.QueryLaws.{query-sizes, produced-count, tested-count, set-count}
@@ -39,20 +39,26 @@ pub record Built (query t : Bytes) (n : ℕ) : Type 0 where
   pub made : Made (readQuery query) contents n
   pub bytes-are : t ≡ writeTable contents
 
-pub built-facts : (query : Bytes) (scratch output : ℕ) (t : Bytes) (n : ℕ) → outcome query scratch output ≡ built t n → Built query t n
-built-facts query scratch output t n e = go (outcome-means query scratch output) e
+-- what follows where a build gives a table: the query passed, there was room, and the table was constructed
+pub built-when : {P : Type 0} (query : Bytes) (scratch output : ℕ) (t : Bytes) (n : ℕ) →
+    ((k : Table) → queryRefusal query ≡ passed → scratchLength ≤ scratch → Constructs (readQuery query) (table k n) → t ≡ writeTable k → P) → outcome query scratch output ≡ built t n → P
+built-when {P} query scratch output t n follows e = go (outcome-means query scratch output) e
   where
-    never : {m : ℕ} → refused m ≡ built t n → Built query t n
+    never : {m : ℕ} → refused m ≡ built t n → P
     never d = let z : _≡_ {A = ℕ} 0 1 = cc in let f : ⊥ = omega arith in absurd f
 
-    go : {r : Outcome} → Means query scratch output r → r ≡ built t n → Built query t n
+    go : {r : Outcome} → Means query scratch output r → r ≡ built t n → P
     go (query-refused _) d = never d
     go (scratch-short _ _) d = never d
     go (not-constructed _ _ _) d = never d
     go (output-short _ _ _ _) d = never d
     go (table-built {t = k} {n = m} c s x h) d =
         let count : m ≡ n = cc in
-        record { checked = c; contents = k; made = subst (Made (readQuery query) k) count (made (readQuery query) x); bytes-are = cc }
+        follows k c s (subst (λ j. Constructs (readQuery query) (table k j)) count x) cc
+
+pub built-facts : (query : Bytes) (scratch output : ℕ) (t : Bytes) (n : ℕ) → outcome query scratch output ≡ built t n → Built query t n
+built-facts query scratch output t n =
+    built-when query scratch output t n (λ k c s x e. record { checked = c; contents = k; made = made (readQuery query) x; bytes-are = e })
 
 -- A table that a build gives is faithful to the query that its bytes say, passes the table check, and reads back.
 module _ {query t : Bytes} {n : ℕ} (b : Built query t n) where

@@ -9,16 +9,19 @@ use mathlib.Core.List.{List, []}
 use lib.Dec.{ltb}
 use lib.ListN.{length, getD}
 use lib.Seq.{getD-take, getD-drop}
-use borrow.Author.Tests.{ltb-true}
+use borrow.Author.Tests.{ltb-true, ltb-false}
 use Rattle.theory.specs.Tests.{Says}
+use Rattle.theory.specs.Limits.{maxStates, tableSizes}
 use Rattle.theory.specs.Orders.{Query, interesting, After}
 use Rattle.theory.specs.Refusals.{passed, firstRefusal, firstOf}
-use Rattle.theory.specs.Machine.{Machine}
-use Rattle.theory.specs.Query.{Bytes, byteAt}
+use Rattle.theory.specs.Machine.{Machine, SameAnswers}
+use Rattle.theory.specs.Query.{Bytes, byteAt, outside}
 use Rattle.theory.specs.Construction.{sizesOf}
-use Rattle.theory.specs.Table.{Table, tableOf, machineIn, writeTable, statesIn, producedIn, testedIn, setsIn, startIn, successorsBase, successorIn, stateRefusal, formRefusal, startsRefusal, successorsRefusal, heldRefusal, tableRefusal}
+use Rattle.theory.specs.Table.{Table, Sized, Numbered, tableOf, numbersOf, machineIn, writeTable, statesIn, producedIn, testedIn, setsIn, sizesIn, startIn, successorsBase, successorIn, stateRefusal, formRefusal, startsRefusal, successorsRefusal, heldRefusal, tableRefusal}
 use Rattle.theory.specs.Lookups.{Tells, Faithful}
-use Rattle.theory.proofs.RefusalLaws.{or-passed, first-passed, refused-else}
+use Rattle.theory.proofs.RefusalLaws.{or-passed, first-passed, refused-then, refused-else, neither}
+use Rattle.theory.proofs.MachineLaws.{Inside}
+use Rattle.theory.proofs.PairLaws.{same-sym}
 use Rattle.theory.proofs.TableLaws.{written-check}
 use Rattle.theory.proofs.MachineTable.{Limited, Enumerated, table-sized, table-numbered, numbers-answer, bytes-answer}
 
@@ -32,42 +35,83 @@ successor-byte t state s h =
     getD-take (setsIn t) _ s 0 h ∙ getD-drop (successorsBase t + state * setsIn t) t s 0
     ∙ ap (byteAt t) (omega arith)
 
--- A table that passes the table check is faithful to a query whose sizes it has and whose derivation it tells.
-pub passed-faithful : (q : Query) (t : Bytes) → tableRefusal t ≡ passed → producedIn t ≡ length (q .produced) → testedIn t ≡ length (q .tested) → setsIn t ≡ q .sets →
-    Tells q (machineIn t) → Faithful q t
+-- What is known of a table that passes the table check: its form, and that its states stay below Q, which is at most 128.
+pub record Checked (t : Bytes) : Type 0 where
+  pub form : formRefusal t ≡ passed
+  pub few : statesIn t ≤ maxStates
+  pub inside : Inside (machineIn t) (sizesIn t) (statesIn t)
+  pub words : (state : ℕ) → state < statesIn t → heldRefusal t state ≡ passed
+
+few-states : (t : Bytes) → formRefusal t ≡ passed → statesIn t ≤ maxStates
+unfolding formRefusal
+few-states t e =
+    let sizes = refused-then (ltb (length t) tableSizes) e (omega arith) .1 in
+    ltb-false maxStates (statesIn t) (neither (ltb (statesIn t) 1) (ltb maxStates (statesIn t)) (refused-then (outside 1 maxStates (statesIn t)) sizes (omega arith) .0) .1)
+
+pub table-checked : (t : Bytes) → tableRefusal t ≡ passed → Checked t
 unfolding tableRefusal startsRefusal successorsRefusal
-passed-faithful q t e produced tested sets tells =
+table-checked t e =
     let rest = firstRefusal (successorsRefusal t) (firstOf (heldRefusal t) (statesIn t)) in
     let a = or-passed (formRefusal t) (firstRefusal (startsRefusal t) rest) e in
     let b = or-passed (startsRefusal t) rest (a .1) in
     let c = or-passed (successorsRefusal t) (firstOf (heldRefusal t) (statesIn t)) (b .1) in
     record {
       form = a .0;
+      few = few-states t (a .0);
+      inside =
+          record {
+            start-below = λ p h. state-passed t (startIn t p) (first-passed (λ k. stateRefusal t (startIn t k)) (producedIn t) (b .0) p h);
+            next-below = λ state s h k.
+                let fits : suc state * setsIn t ≤ statesIn t * setsIn t = mul-le-mul-right (setsIn t) h in
+                subst (λ n. n < statesIn t) (sym (successor-byte t state s k))
+                (state-passed t (byteAt t (successorsBase t + (state * setsIn t + s)))
+                (first-passed (λ i. stateRefusal t (byteAt t (successorsBase t + i))) (statesIn t * setsIn t) (c .0) (state * setsIn t + s) (omega (arith, suc-mul state (setsIn t)))));
+          };
+      words = first-passed (heldRefusal t) (statesIn t) (c .1);
+    }
+
+-- A table that passes the table check is faithful to a query whose sizes it has and whose derivation it tells.
+pub passed-faithful : (q : Query) (t : Bytes) → tableRefusal t ≡ passed → producedIn t ≡ length (q .produced) → testedIn t ≡ length (q .tested) → setsIn t ≡ q .sets →
+    Tells q (machineIn t) → Faithful q t
+passed-faithful q t e produced tested sets tells =
+    let c = table-checked t e in
+    record {
+      form = c .form;
       produced-size = produced;
       tested-size = tested;
       sets-size = sets;
-      start-below = λ p h. state-passed t (startIn t p) (first-passed (λ k. stateRefusal t (startIn t k)) (producedIn t) (b .0) p h);
-      successor-below = λ state s h k.
-          let fits : suc state * setsIn t ≤ statesIn t * setsIn t = mul-le-mul-right (setsIn t) h in
-          subst (λ n. n < statesIn t) (sym (successor-byte t state s k))
-          (state-passed t (byteAt t (successorsBase t + (state * setsIn t + s)))
-          (first-passed (λ i. stateRefusal t (byteAt t (successorsBase t + i))) (statesIn t * setsIn t) (c .0) (state * setsIn t + s) (omega (arith, suc-mul state (setsIn t)))));
+      start-below = c .inside .start-below;
+      successor-below = c .inside .next-below;
       tells = tells;
     }
+
+-- A machine that answers as another tells the derivation where that one does.
+pub same-tells : {X Y : Type 0} (q : Query) (m : Machine X) (k : Machine Y) → SameAnswers (sizesOf q) m k → Tells q m → Tells q k
+same-tells q m k same tells p i ss h b l =
+    subst (λ held. Says (After q (getD (q .produced) p []) ss (getD (interesting q) i [])) (getD held i false)) (same p ss h b) (tells p i ss h b l)
 
 -- The table of a machine that tells a query's derivation is faithful to the query, and passes the table check.
 module _ {X : Type 0} (q : Query) (m : Machine X) (xs : List X) (limits : Limited (sizesOf q)) (known : Enumerated m (sizesOf q) xs) where
   abbrev made : Table
   made = tableOf m (sizesOf q) xs
 
+  sized : Sized made
+  sized = table-sized m (sizesOf q) xs limits known
+
+  closed : Numbered made
+  closed = table-numbered m (sizesOf q) xs limits known
+
   pub table-passes : tableRefusal (writeTable made) ≡ passed
-  table-passes = written-check made (table-sized m (sizesOf q) xs limits known) (table-numbered m (sizesOf q) xs limits known)
+  table-passes = written-check made sized closed
+
+  -- its numbers tell the derivation, ..
+  pub numbers-tell : Tells q m → Tells q (numbersOf made)
+  numbers-tell = same-tells q m (numbersOf made) (same-sym (sizesOf q) (numbersOf made) m (numbers-answer m (sizesOf q) xs limits known))
+
+  -- .. and so do its bytes
 
   pub faithful-table : Tells q m → Faithful q (writeTable made)
   unfolding tableOf writeTable
   faithful-table tells =
       passed-faithful q (writeTable made) table-passes refl refl refl
-      (λ p i ss h b l.
-      subst (λ held. Says (After q (getD (q .produced) p []) ss (getD (interesting q) i [])) (getD held i false))
-      (sym (bytes-answer made (table-sized m (sizesOf q) xs limits known) (table-numbered m (sizesOf q) xs limits known) p ss h b ∙ numbers-answer m (sizesOf q) xs limits known p ss h b))
-      (tells p i ss h b l))
+      (same-tells q (numbersOf made) (machineIn (writeTable made)) (same-sym (sizesOf q) (machineIn (writeTable made)) (numbersOf made) (bytes-answer made sized closed)) (numbers-tell tells))

@@ -19,6 +19,7 @@ pub mod RefusalLaws
 pub mod RowLaws
 pub mod RangeLaws
 pub mod BitLaws
+pub mod PairLaws
 pub mod QueryLaws
 pub mod TableLaws
 pub mod MachineTable
@@ -27,3 +28,5 @@ pub mod Faithfulness
 pub mod BuildLaws
 pub mod ConstructionLaws
 pub mod DemandThree
+pub mod VerificationLaws
+pub mod SuppliedTables

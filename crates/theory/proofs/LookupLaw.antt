@@ -4,7 +4,7 @@ use Prim.Native.Nat.{ℕ, _+_, _/_, _%_, _^_, _<_, _≤_}
 use native.Mathlib.Omega.{arith}
 use mathlib.Core.Path.{_≡_, refl, sym, _∙_, ap, subst}
 use mathlib.Core.Bool.{Bool, true, false}
-use mathlib.Core.List.{List, [], _∷_, _++_, List·Memᴰ·head}
+use mathlib.Core.List.{List, [], _∷_, _++_}
 use lib.Dec.{ltb, eqb}
 use lib.ListN.{length, getD, length-append}
 use borrow.Author.Tests.{lt-ltb, le-ltb}
@@ -14,11 +14,11 @@ use Rattle.theory.specs.Rows.{HoldsOfRows}
 use Rattle.theory.specs.Refusals.{handle-refused}
 use Rattle.theory.specs.Machine.{AllBelow, runs}
 use Rattle.theory.specs.Query.{Bytes, byteAt}
-use Rattle.theory.specs.Table.{refuse, grant, enter, takeIn, ask, statesIn, producedIn, testedIn, setsIn, startIn, successorIn, heldIn, heldBit, heldOrders, machineIn, bit}
+use Rattle.theory.specs.Table.{refuse, grant, enter, takeIn, ask, statesIn, producedIn, testedIn, setsIn, sizesIn, startIn, successorIn, heldIn, heldBit, heldOrders, machineIn, bit}
 use Rattle.theory.specs.Lookups.{Lookup, entry, taking, asking, run, Answers, done, entry-refused, entry-granted, take-refused, take-granted, ask-refused, ask-granted, Faithful}
 use Rattle.theory.proofs.Reflect.{says-true, says-eqb, says-ltb}
 use Rattle.theory.proofs.RangeLaws.{entry-of}
-use Rattle.theory.proofs.MachineLaws.{below-nil, below-tail, below-snoc, runs-snoc}
+use Rattle.theory.proofs.MachineLaws.{below-nil, below-snoc, runs-snoc, Inside, inside-after}
 
 -- a number is below a bound, written in two ways, or it is not
 below-or-not : {C : Type 0} (m : ℕ) {n k : ℕ} → n ≡ k → (m < n → m < k → C) → (n ≤ m → k ≤ m → C) → C
@@ -86,9 +86,8 @@ module _ {q : Query} {t : Bytes} (f : Faithful q t) where
   interesting-size = rw (length-append, f .produced-size, f .tested-size)
 
   -- taking sets leads from a state to a state
-  runs-below : (state : ℕ) (ss : List ℕ) → state < statesIn t → AllBelow (setsIn t) ss → runs (machineIn t) state ss < statesIn t
-  runs-below state [] h b = h
-  runs-below state (s ∷ ss) h b = runs-below (successorIn t state s) ss (f .successor-below state s h (b s (List·Memᴰ·head refl))) (below-tail (setsIn t) b)
+  stays : Inside (machineIn t) (sizesIn t) (statesIn t)
+  stays = record { start-below = f .start-below; next-below = f .successor-below }
 
   -- the state from the start of a produced order through the sets
   abbrev at : ℕ → List ℕ → ℕ
@@ -96,7 +95,7 @@ module _ {q : Query} {t : Bytes} (f : Faithful q t) where
 
   -- it is a state of the table
   at-below : (p : ℕ) (ss : List ℕ) → p < producedIn t → AllBelow (setsIn t) ss → at p ss < statesIn t
-  at-below p ss h b = runs-below (startIn t p) ss (f .start-below p h) b
+  at-below = inside-after stays
 
   -- the row theorem is handed in
   module _ (rows : (p : Order) (ss : List ℕ) (o : Order) → After q p ss o → HoldsOfRows q p ss o) where

@@ -12,7 +12,7 @@ use Rattle.theory.specs.Machine.{Sizes, Machine, AllBelow, runs, Reached
 use Rattle.theory.proofs.Reflect.{says-as}
 use Rattle.theory.proofs.ListLaws.{member-upFrom, upFrom-member}
 use Rattle.theory.proofs.RowLaws.{all-snoc}
-use Rattle.theory.proofs.ClosureLaws.{closure-distinct, closure-found, closure-complete, closure-many, more-as}
+use Rattle.theory.proofs.ClosureLaws.{closure-distinct, closure-found, closure-complete, closure-few, closure-many, more-as}
 
 -- no set, one set more in front, and one more behind
 pub below-nil : (n : ℕ) → AllBelow n []
@@ -89,7 +89,25 @@ module _ {X : Type 0} (m : Machine X) where
       unfolding numberedWithin
       numbered-distinct = closure-distinct decides moves cap starts
 
+      -- it is within the limit where all reached states are in a list that is
+      pub numbered-few : (xs : List X) → length xs ≤ cap → ((x : X) → Reached m z x → List·Memᴰ x xs) → length (numberedWithin m cap z) ≤ cap
+      unfolding numberedWithin
+      numbered-few xs h w = closure-few decides moves cap starts xs h (λ x f. w x (found-reached x f))
+
       -- past it exactly when there are more states
       pub numbered-many : Says (More cap (Reached m z)) (ltb cap (length (numberedWithin m cap z)))
       unfolding numberedWithin
       numbered-many = says-as (more-as found-reached) (more-as reached-found) (closure-many decides moves cap starts)
+
+-- A machine whose states are numbers stays below n.
+pub record Inside (m : Machine ℕ) (z : Sizes) (n : ℕ) : Type 0 where
+  pub start-below : (p : ℕ) → p < z .produced → m .start p < n
+  pub next-below : (x s : ℕ) → x < n → s < z .sets → m .next x s < n
+
+module _ {m : Machine ℕ} {z : Sizes} {n : ℕ} (i : Inside m z n) where
+  pub inside-runs : (ss : List ℕ) → AllBelow (z .sets) ss → (x : ℕ) → x < n → runs m x ss < n
+  inside-runs [] b x h = h
+  inside-runs (s ∷ ss) b x h = inside-runs ss (below-tail (z .sets) b) (m .next x s) (i .next-below x s h (b s (List·Memᴰ·head refl)))
+
+  pub inside-after : (p : ℕ) (ss : List ℕ) → p < z .produced → AllBelow (z .sets) ss → runs m (m .start p) ss < n
+  inside-after p ss h b = inside-runs ss b (m .start p) (i .start-below p h)

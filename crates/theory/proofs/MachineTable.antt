@@ -7,13 +7,13 @@ use mathlib.Core.List.{List, [], _∷_, map, List·Memᴰ, List·Memᴰ·head, M
 use lib.ListN.{length, getD, length-map}
 use Rattle.theory.specs.Tests.{Decides, position, upFrom}
 use Rattle.theory.specs.Limits.{maxStates, maxProduced, maxTested, maxSets}
-use Rattle.theory.specs.Machine.{Sizes, Machine, AllBelow, runs, Reached}
-use Rattle.theory.specs.Table.{Table, Sized, Numbered, tableOf, numbersOf, machineIn, writeTable}
+use Rattle.theory.specs.Machine.{Sizes, Machine, AllBelow, runs, Reached, SameAnswers}
+use Rattle.theory.specs.Table.{Table, Sized, Numbered, tableOf, countsOf, numbersOf, machineIn, writeTable}
 use Rattle.theory.proofs.PositionLaws.{position-bound, position-reads}
 use Rattle.theory.proofs.ListLaws.{member-getD, member-upFrom}
 use Rattle.theory.proofs.RowLaws.{getD-map}
 use Rattle.theory.proofs.RangeLaws.{entry-of, entry-count}
-use Rattle.theory.proofs.MachineLaws.{below-tail, reached-start, reached-next, reached-runs}
+use Rattle.theory.proofs.MachineLaws.{below-tail, reached-start, reached-next, reached-runs, Inside, inside-after}
 use Rattle.theory.proofs.TableLaws.{written-start, written-successor, held-back}
 
 -- The sizes are within their limits.
@@ -116,8 +116,7 @@ module _ {X : Type 0} (m : Machine X) (z : Sizes) (xs : List X) where
         ap (λ n. runs (numbersOf numbered) n ss) (successor-number x s r h) ∙ run-number ss (below-tail (z .sets) b) (m .next x s) (reached-next m z x s r h)
 
     -- The table's numbers answer as the machine does.
-    pub numbers-answer : (p : ℕ) (ss : List ℕ) → p < z .produced → AllBelow (z .sets) ss →
-        numbersOf numbered .held (runs (numbersOf numbered) (numbersOf numbered .start p) ss) ≡ m .held (runs m (m .start p) ss)
+    pub numbers-answer : SameAnswers z (numbersOf numbered) m
     numbers-answer p ss h b =
         let r = reached-start m z p h in
         ap (numbersOf numbered .held) (ap (λ n. runs (numbersOf numbered) n ss) (start-number p h) ∙ run-number ss b (m .start p) r)
@@ -125,27 +124,29 @@ module _ {X : Type 0} (m : Machine X) (z : Sizes) (xs : List X) where
 
 module _ (t : Table) (sized : Sized t) (closed : Numbered t) where
   -- the table's numbers stay below the count of states
-  start-below : (p : ℕ) → p < t .producedCount → numbersOf t .start p < t .stateCount
-  start-below p h = closed .starts-below (getD (t .starts) p 0) (member-getD (t .starts) p 0 (subst (λ n. p < n) (sym (sized .starts-count)) h))
+  pub numbers-inside : Inside (numbersOf t) (countsOf t) (t .stateCount)
+  numbers-inside =
+      record {
+        start-below = λ p h. closed .starts-below (getD (t .starts) p 0) (member-getD (t .starts) p 0 (subst (λ n. p < n) (sym (sized .starts-count)) h));
+        next-below = λ state s h k.
+            let row = getD (t .successors) state [] in
+            let among = member-getD (t .successors) state [] (subst (λ n. state < n) (sym (sized .rows-count)) h) in
+            closed .successors-below row among (getD row s 0) (member-getD row s 0 (subst (λ n. s < n) (sym (sized .row-width row among)) k));
+      }
 
-  successor-below : (state s : ℕ) → state < t .stateCount → s < t .setCount → numbersOf t .next state s < t .stateCount
-  successor-below state s h k =
-      let row = getD (t .successors) state [] in
-      let among = member-getD (t .successors) state [] (subst (λ n. state < n) (sym (sized .rows-count)) h) in
-      closed .successors-below row among (getD row s 0) (member-getD row s 0 (subst (λ n. s < n) (sym (sized .row-width row among)) k))
+  -- each state says of every interesting order whether it is held
+  pub numbers-wide : (state : ℕ) → state < t .stateCount → length (numbersOf t .held state) ≡ t .producedCount + t .testedCount
+  numbers-wide state h = sized .held-width (getD (t .held) state []) (member-getD (t .held) state [] (subst (λ n. state < n) (sym (sized .held-count)) h))
 
-  -- a run of the bytes arrives where a run of the numbers does, at a state of the table
-  run-bytes : (ss : List ℕ) → AllBelow (t .setCount) ss → (state : ℕ) → state < t .stateCount →
-      (runs (machineIn (writeTable t)) state ss ≡ runs (numbersOf t) state ss) × (runs (numbersOf t) state ss < t .stateCount)
-  run-bytes [] b state h = (refl, h)
+  -- a run of the bytes arrives where a run of the numbers does
+  run-bytes : (ss : List ℕ) → AllBelow (t .setCount) ss → (state : ℕ) → state < t .stateCount → runs (machineIn (writeTable t)) state ss ≡ runs (numbersOf t) state ss
+  run-bytes [] b state h = refl
   run-bytes (s ∷ ss) b state h =
-      let k = run-bytes ss (below-tail (t .setCount) b) (numbersOf t .next state s) (successor-below state s h (b s (List·Memᴰ·head refl))) in
-      (ap (λ n. runs (machineIn (writeTable t)) n ss) (written-successor t sized state s h) ∙ k .0, k .1)
+      ap (λ n. runs (machineIn (writeTable t)) n ss) (written-successor t sized state s h)
+      ∙ run-bytes ss (below-tail (t .setCount) b) (numbersOf t .next state s) (numbers-inside .next-below state s h (b s (List·Memᴰ·head refl)))
 
   -- The bytes answer as the numbers do.
-  pub bytes-answer : (p : ℕ) (ss : List ℕ) → p < t .producedCount → AllBelow (t .setCount) ss →
-      machineIn (writeTable t) .held (runs (machineIn (writeTable t)) (machineIn (writeTable t) .start p) ss) ≡ numbersOf t .held (runs (numbersOf t) (numbersOf t .start p) ss)
+  pub bytes-answer : SameAnswers (countsOf t) (machineIn (writeTable t)) (numbersOf t)
   bytes-answer p ss h b =
-      let k = run-bytes ss b (numbersOf t .start p) (start-below p h) in
-      ap (machineIn (writeTable t) .held) (ap (λ n. runs (machineIn (writeTable t)) n ss) (written-start t sized p h) ∙ k .0)
-      ∙ held-back t sized (runs (numbersOf t) (numbersOf t .start p) ss) (k .1)
+      ap (machineIn (writeTable t) .held) (ap (λ n. runs (machineIn (writeTable t)) n ss) (written-start t sized p h) ∙ run-bytes ss b (numbersOf t .start p) (numbers-inside .start-below p h))
+      ∙ held-back t sized (runs (numbersOf t) (numbersOf t .start p) ss) (inside-after numbers-inside p ss h b)

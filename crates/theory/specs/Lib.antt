@@ -1,4 +1,4 @@
--- Document 01 as definitions, in its order.
+-- Document 01 as definitions, in its order, then what document 02 adds.
 pub mod Tests
 pub mod Limits
 pub mod Orders
@@ -13,3 +13,4 @@ pub mod Scratch
 pub mod Build
 pub mod Lookups
 pub mod Listing
+pub mod Verification

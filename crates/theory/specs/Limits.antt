@@ -20,6 +20,10 @@ maxDependencies = 16
 abbrev pub maxStates : ℕ
 maxStates = 128
 
+-- Two tables have no more pairs of states than these.
+abbrev pub maxPairs : ℕ
+maxPairs = 16384
+
 -- The construction has no more nodes than these.
 abbrev pub maxNodes : ℕ
 maxNodes = 256

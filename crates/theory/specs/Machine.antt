@@ -2,9 +2,9 @@
 -- bytes say another.
 use Prim.Native.Nat.{ℕ, zero, _<_}
 use mathlib.Core.Path.{_≡_}
-use mathlib.Core.Bool.{Bool}
-use mathlib.Core.List.{List, [], _∷_, map, List·Memᴰ}
-use Rattle.theory.specs.Tests.{upFrom}
+use mathlib.Core.Bool.{Bool, _&&_, Bool·beq}
+use mathlib.Core.List.{List, [], _∷_, _++_, map, List·Memᴰ}
+use Rattle.theory.specs.Tests.{upFrom, every, sameList}
 use Rattle.theory.specs.Closure.{closure}
 
 -- How many produced orders, tested orders and sets there are.
@@ -42,3 +42,23 @@ module _ {X : Type 0} (m : Machine X) where
   -- and each new state gets the next free number. Where the list is longer than `cap`, there are more states than that.
   unfoldable pub numberedWithin : ℕ → Sizes → List X
   numberedWithin cap z = closure (m .same) (λ x. map (m .next x) (upFrom zero (z .sets))) cap (map (m .start) (upFrom zero (z .produced)))
+
+module _ {X Y : Type 0} where
+  -- Two machines answer alike: from the start of every produced order and through every run of sets, both hold the same orders.
+  abbrev pub SameAnswers : Sizes → Machine X → Machine Y → Type 0
+  SameAnswers z m k =
+      (p : ℕ) (ss : List ℕ) → p < z .produced → AllBelow (z .sets) ss → m .held (runs m (m .start p) ss) ≡ k .held (runs k (k .start p) ss)
+
+  -- Two machines side by side: their states are pairs, one state of each, and they hold what the one holds and then what the other holds.
+  abbrev pub both : Machine X → Machine Y → Machine (X × Y)
+  both m k =
+      record {
+        start = λ p. (m .start p, k .start p);
+        next = λ x s. (m .next (x .0) s, k .next (x .1) s);
+        held = λ x. m .held (x .0) ++ k .held (x .1);
+        same = λ x y. m .same (x .0) (y .0) && k .same (x .1) (y .1);
+      }
+
+  -- The two states of every pair that is reached hold the same orders: a test that computes, where there are at most `cap` such pairs.
+  unfoldable pub agree : ℕ → Sizes → Machine X → Machine Y → Bool
+  agree cap z m k = every (λ x. sameList Bool·beq (m .held (x .0)) (k .held (x .1))) (numberedWithin (both m k) cap z)

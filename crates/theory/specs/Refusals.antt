@@ -1,4 +1,4 @@
--- Document 01, "The refusal list": the numbers, each named by its word. 0 stands for no refusal.
+-- Document 01, "The refusal list", with what document 02 adds: the numbers, each named by its word. 0 stands for no refusal.
 use Prim.Native.Nat.{ℕ, zero, suc}
 use lib.Dec.{eqb}
 use Rattle.theory.specs.Tests.{pick}
@@ -38,6 +38,12 @@ handle-refused = 10
 
 abbrev pub row-refused : ℕ
 row-refused = 11
+
+abbrev pub mismatch-refused : ℕ
+mismatch-refused = 12
+
+abbrev pub answer-refused : ℕ
+answer-refused = 13
 
 -- The first of two checks that refuses, if one does.
 abbrev pub firstRefusal : ℕ → ℕ → ℕ

@@ -53,7 +53,10 @@ tableOf m z xs =
       held = map (λ x. m .held x) xs;
     }
 
--- A table as a machine: its states are their numbers.
+-- A table's sizes, and a table as a machine: its states are their numbers.
+abbrev pub countsOf : Table → Sizes
+countsOf t = record { produced = t .producedCount; tested = t .testedCount; sets = t .setCount }
+
 abbrev pub numbersOf : Table → Machine ℕ
 numbersOf t = record { start = λ p. getD (t .starts) p 0; next = λ state s. getD (getD (t .successors) state []) s 0; held = λ state. getD (t .held) state []; same = eqb }
 
@@ -87,6 +90,9 @@ testedIn t = byteAt t 2
 
 abbrev pub setsIn : Bytes → ℕ
 setsIn t = byteAt t 3
+
+abbrev pub sizesIn : Bytes → Sizes
+sizesIn t = record { produced = producedIn t; tested = testedIn t; sets = setsIn t }
 
 -- Where the successors and where the held bytes begin, and the length that the sizes imply.
 abbrev pub successorsBase : Bytes → ℕ
