@@ -14,7 +14,7 @@ use Rattle.theory.proofs.StateLaws.{marked-at}
 use Rattle.theory.proofs.RowLaws.{getD-map}
 use Rattle.derivation.specs.Keys.{keyOf}
 use Rattle.closure.specs.Work.{packMarks}
-use Rattle.closure.specs.Marks.{inMarks, withMark}
+use Rattle.marks.specs.Marks.{inMarks, withMark}
 use Rattle.closure.specs.Close.{Marked, none, unknown, there, new, Turned, over, visit, Visited, begun, turn}
 use Rattle.closure.proofs.MarkLaws.{marked-pack, pack-mark}
 use Rattle.closure.proofs.NumberLaws.{set-keeps, set-only}

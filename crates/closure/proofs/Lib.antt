@@ -1,6 +1,5 @@
 -- What the proofs of this crate's functions share, and what callers know of marks.
 pub mod MarkLaws
-pub mod CountLaws
 pub mod TraceLaws
 pub mod RuleLaws
 pub mod NumberLaws

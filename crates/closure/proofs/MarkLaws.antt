@@ -17,7 +17,7 @@ use Rattle.theory.proofs.Reflect.{says-ltb, says-eqb}
 use Rattle.theory.proofs.RowLaws.{bit-below, eqb-bit, number-bit}
 use Rattle.theory.proofs.RangeLaws.{entry-of, entry-count}
 use Rattle.closure.specs.Work.{packMarks}
-use Rattle.closure.specs.Marks.{inMarks, withMark}
+use Rattle.marks.specs.Marks.{inMarks, withMark}
 
 -- there are 32 bytes, and byte q has the marks from 8 * q on
 pub pack-length : (ms : Marks) → length (packMarks ms) ≡ 32

@@ -18,7 +18,7 @@ use Rattle.derivation.specs.Keys.{keyOf, Small, keySteps}
 use Rattle.derivation.proofs.KeyLaws.{key-injective}
 use Rattle.nodes.proofs.NodeKeys.{kept-small, key-steps, nodes-small, nodes-count}
 use Rattle.closure.specs.Work.{packMarks, Ready, nodesOf}
-use Rattle.closure.specs.Marks.{inMarks}
+use Rattle.marks.specs.Marks.{inMarks}
 use Rattle.closure.specs.Close.{Room, Visiting}
 use Rattle.closure.proofs.MarkLaws.{marked-pack}
 use Rattle.closure.proofs.NumberLaws.{marks-unique}

@@ -9,9 +9,9 @@ use mathlib.Core.List.{List, [], _∷_, _++_, List·Memᴰ, List·Memᴰ·not-ni
 use lib.ListN.{length, take}
 use lib.Seq.{length-take-le}
 use Rattle.theory.specs.Query.{Bytes}
-use Rattle.closure.specs.Marks.{inMarks, withMark}
+use Rattle.marks.specs.Marks.{inMarks, withMark, marksBelow}
 use Rattle.closure.specs.Close.{Room, HasKey, Sought, Marked, none, unknown, there, new, Marking}
-use Rattle.closure.proofs.CountLaws.{mark-length, mark-keeps, mark-sets, held, held-few, held-grows}
+use Rattle.marks.proofs.CountLaws.{mark-length, mark-keeps, mark-sets, below-few, below-grows}
 
 pub marked-append : {ks xs ys : List ℕ} {m m′ m″ : Bytes} {r s : ℕ} → Marked ks xs m m′ r → Marked ks ys m′ m″ s → Marked ks (xs ++ ys) m m″ (r + s)
 marked-append {s} none u = rw (zero-add s) u
@@ -27,7 +27,7 @@ pub record Holds (ks : List ℕ) (x : ℕ) (m : Bytes) : Type 0 where
 
 module _ (ks : List ℕ) (short : length ks ≤ 256) where
   -- the sets have as many nodes more as were not there
-  pub marked-held : {xs : List ℕ} {m m′ : Bytes} {r : ℕ} → Marked ks xs m m′ r → length m ≡ 32 → (length m′ ≡ 32) × (r + held (length ks) m ≤ held (length ks) m′)
+  pub marked-held : {xs : List ℕ} {m m′ : Bytes} {r : ℕ} → Marked ks xs m m′ r → length m ≡ 32 → (length m′ ≡ 32) × (r + marksBelow (length ks) m ≤ marksBelow (length ks) m′)
   marked-held none l = (l, omega arith)
   marked-held (unknown f t) l = marked-held t l
   marked-held (there h a t) l = marked-held t l
@@ -35,10 +35,10 @@ module _ (ks : List ℕ) (short : length ks ≤ 256) where
       let below = h .below in
       let within : i / 8 < length m = omega arith in
       let rest = marked-held t (mark-length m i ∙ l) in
-      (rest .0, omega (arith, rest .1, held-grows m (withMark m i) (mark-keeps m i within) (length ks) i below a (mark-sets m i within)))
+      (rest .0, omega (arith, rest .1, below-grows m (withMark m i) (mark-keeps m i within) (length ks) i below a (mark-sets m i within)))
 
   marked-few : {xs : List ℕ} {m m′ : Bytes} {r : ℕ} → Marked ks xs m m′ r → length m ≡ 32 → r ≤ 256
-  marked-few {m′} t l = omega (arith, marked-held t l .1, held-few (length ks) m′)
+  marked-few {m′} t l = omega (arith, marked-held t l .1, below-few (length ks) m′)
 
   pub marking : {xs : List ℕ} {m m′ : Bytes} {r : ℕ} → length m ≡ 32 → Marked ks xs m m′ r → Marking ks xs m m′ r
   marking l t = record { long = marked-held t l .0; few = marked-few t l; marked = t }

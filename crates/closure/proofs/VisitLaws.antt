@@ -10,9 +10,9 @@ use lib.Dec.{eqb}
 use lib.ListN.{length, getD, take, replicate, getD-replicate}
 use borrow.Author.Count.{below-more}
 use Rattle.theory.specs.Query.{Bytes}
-use Rattle.closure.specs.Marks.{inMarks, withMark}
+use Rattle.marks.specs.Marks.{inMarks, withMark, marksBelow}
 use Rattle.closure.specs.Close.{Room, Marked, none, unknown, there, new, Marking, Turned, over, visit, Turning, Visited, begun, turn, Visiting}
-use Rattle.closure.proofs.CountLaws.{mark-length, mark-keeps, mark-sets, mark-only, held, held-few}
+use Rattle.marks.proofs.CountLaws.{mark-length, mark-keeps, mark-sets, mark-only, below-few}
 use Rattle.closure.proofs.TraceLaws.{Holds, marked-held, marked-keeps, marked-has, key-count}
 
 -- all that the nodes of v give is in the set m
@@ -28,11 +28,11 @@ marked-zero (new h a t) z = let no : ⊥ = omega arith in absurd no
 
 module _ {out : ℕ → List ℕ} {ks : List ℕ} (short : length ks ≤ 256) where
   -- the sets have as many nodes more as were not there
-  turned-held : {i r : ℕ} {m v m′ v′ : Bytes} → Turned out ks i m v m′ v′ r → (length m ≡ 32) × (length v ≡ 32) → (length m′ ≡ 32) × (length v′ ≡ 32) × (r + held (length ks) m ≤ held (length ks) m′)
+  turned-held : {i r : ℕ} {m v m′ v′ : Bytes} → Turned out ks i m v m′ v′ r → (length m ≡ 32) × (length v ≡ 32) → (length m′ ≡ 32) × (length v′ ≡ 32) × (r + marksBelow (length ks) m ≤ marksBelow (length ks) m′)
   turned-held (over f) l = (l .0, l .1, omega arith)
   turned-held {i} {v} (visit e t) l = let h = marked-held ks short t (l .0) in (h .0, mark-length v i ∙ l .1, h .1)
 
-  visited-held : {i r : ℕ} {m v m′ v′ : Bytes} → Visited out ks m v i m′ v′ r → (length m ≡ 32) × (length v ≡ 32) → (length m′ ≡ 32) × (length v′ ≡ 32) × (r + held (length ks) m ≤ held (length ks) m′)
+  visited-held : {i r : ℕ} {m v m′ v′ : Bytes} → Visited out ks m v i m′ v′ r → (length m ≡ 32) × (length v ≡ 32) → (length m′ ≡ 32) × (length v′ ≡ 32) × (r + marksBelow (length ks) m ≤ marksBelow (length ks) m′)
   visited-held begun l = (l .0, l .1, omega arith)
   visited-held (turn w t) l =
       let first = visited-held w l in
@@ -89,7 +89,7 @@ module _ {nodes : List ℕ} {m v : Bytes} {n : ℕ} (room : Room nodes n m) (lon
   visiting : {i r : ℕ} {m′ v′ : Bytes} → Visited out (take n nodes) m v i m′ v′ r → Visiting out (take n nodes) m v i m′ v′ r
   visiting {m′} w =
       let h = visited-held (short-keys room) w (room .long, long) in
-      record { long = (h .0, h .1); few = omega (arith, h .2, held-few (length (take n nodes)) m′, short-keys room); visited = w }
+      record { long = (h .0, h .1); few = omega (arith, h .2, below-few (length (take n nodes)) m′, short-keys room); visited = w }
 
   pub visit-none : Visiting out (take n nodes) m v 0 m v 0
   visit-none = visiting begun
@@ -97,10 +97,10 @@ module _ {nodes : List ℕ} {m v : Bytes} {n : ℕ} (room : Room nodes n m) (lon
   pub visit-more : {i r s : ℕ} {m′ v′ m″ v″ : Bytes} → Visiting out (take n nodes) m v i m′ v′ r → Turning out (take n nodes) i m′ v′ m″ v″ s → Visiting out (take n nodes) m v (i + 1) m″ v″ (r + s)
   visit-more w t = visiting (turn (w .visited) (t .turned))
 
-  pub visit-less : {r : ℕ} {m′ v′ : Bytes} → Visiting out (take n nodes) m v n m′ v′ r → (r ≡ 0 → ⊥) → n - held n m′ < n - held n m
+  pub visit-less : {r : ℕ} {m′ v′ : Bytes} → Visiting out (take n nodes) m v n m′ v′ r → (r ≡ 0 → ⊥) → n - marksBelow n m′ < n - marksBelow n m
   visit-less {r} {m′} w more =
-      let h : r + held n m ≤ held n m′ = rw (key-count room) at (visited-held (short-keys room) (w .visited) (room .long, long) .2) in
-      omega (arith, held-few n m′)
+      let h : r + marksBelow n m ≤ marksBelow n m′ = rw (key-count room) at (visited-held (short-keys room) (w .visited) (room .long, long) .2) in
+      omega (arith, below-few n m′)
 
   pub visit-done : {r : ℕ} {m′ v′ : Bytes} → Visiting out (take n nodes) m v n m′ v′ r → Done out (take n nodes) v m → Done out (take n nodes) v′ m′
   visit-done w d = visited-done (short-keys room) (w .visited) (omega (arith, key-count room)) (room .long, long) d

@@ -8,7 +8,7 @@ use lib.ListN.{length, getD}
 use Rattle.theory.specs.Tests.{pick, upFrom}
 use Rattle.theory.specs.Orders.{Rule}
 use Rattle.theory.specs.Query.{Bytes, orderCount, dependencyCount, dependencyAt}
-use Rattle.closure.specs.Marks.{inMarks, withMark}
+use Rattle.marks.specs.Marks.{inMarks, withMark}
 
 -- There is room for the nodes and for a set of them.
 pub record Room (nodes : List ℕ) (n : ℕ) (marks : Bytes) : Type 0 where

@@ -1,5 +1,4 @@
 // Taking a set in a state.
-use crate::marks;
 use crate::own;
 use derivation::keys;
 use derivation::results;

@@ -1,4 +1,3 @@
 // The closure of a set of nodes under one set of dependencies, as marks.
 pub mod close;
-pub mod marks;
 mod own;

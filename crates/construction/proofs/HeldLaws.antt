@@ -25,7 +25,7 @@ use Rattle.derivation.specs.Keys.{keyOf, Small}
 use Rattle.derivation.proofs.KeyLaws.{key-injective}
 use Rattle.nodes.proofs.NodeKeys.{nodes-small, nodes-count}
 use Rattle.closure.specs.Work.{packMarks, nodesOf}
-use Rattle.closure.specs.Marks.{inMarks}
+use Rattle.marks.specs.Marks.{inMarks}
 use Rattle.construction.specs.Held.{NodesListed, holdsKey, keyBits, heldBits}
 use Rattle.closure.proofs.MarkLaws.{marked-pack}
 

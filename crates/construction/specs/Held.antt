@@ -11,7 +11,7 @@ use Rattle.theory.specs.Query.{Bytes, orderCount, orderAt, readQuery}
 use Rattle.theory.specs.Table.{number, heldBytes}
 use Rattle.derivation.specs.Keys.{keyOf}
 use Rattle.closure.specs.Work.{Ready, nodesOf, statesOf}
-use Rattle.closure.specs.Marks.{inMarks}
+use Rattle.marks.specs.Marks.{inMarks}
 
 -- The query is prepared with some mask and depth, and its nodes are listed.
 pub record NodesListed (b : Bytes) (array : List ℕ) (count : ℕ) : Type 0 where

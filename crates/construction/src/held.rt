@@ -1,5 +1,5 @@
 // The interesting orders that each state holds, as words, bit i for order i.
-use closure::marks::marked;
+use marks::marked;
 use derivation::keys::key;
 use nodes::find;
 use numbers::limits::HELD_WIDTH;

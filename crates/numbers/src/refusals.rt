@@ -22,3 +22,7 @@ pub const SPACE: u8 = 9;
 pub const HANDLE: u8 = 10;
 
 pub const ROW: u8 = 11;
+
+pub const MISMATCH: u8 = 12;
+
+pub const ANSWER: u8 = 13;

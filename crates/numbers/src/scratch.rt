@@ -7,3 +7,6 @@ pub const STARTS_PART: usize = 5120;
 pub const STARTS_LENGTH: usize = 8;
 
 pub const HELD_PART: usize = 5128;
+
+// Behind a build, in the first bytes: the pairs of states that are reached together, a bit for each of 128 times 128.
+pub const PAIRS_LENGTH: usize = 2048;

@@ -24,7 +24,7 @@ use Rattle.derivation.specs.Keys.{keyOf}
 use Rattle.derivation.proofs.KeyLaws.{key-injective}
 use Rattle.nodes.proofs.NodeKeys.{nodes-small, nodes-count}
 use Rattle.closure.specs.Work.{packMarks, Ready, nodesOf}
-use Rattle.closure.specs.Marks.{withMark}
+use Rattle.marks.specs.Marks.{withMark}
 use Rattle.states.specs.States.{Keyed}
 use Rattle.closure.proofs.MarkLaws.{pack-length, pack-byte, pack-mark}
 use Rattle.theory.proofs.RangeLaws.{map-more}

@@ -1,7 +1,6 @@
 // The starts: the state of each produced order and its prefixes, numbered first.
 use crate::numbered;
 use crate::numbered::Numbered;
-use closure::marks;
 use derivation::keys;
 ghost use mathlib.Core.Path.{_≡_};
 ghost use mathlib.Core.List.{List, []};

@@ -20,6 +20,10 @@ heldPart = 5128
 abbrev pub workLength : ℕ
 workLength = 5384
 
+-- Behind a build, in the first bytes: the pairs of states that are reached together, a bit for each of 128 times 128.
+abbrev pub pairsLength : ℕ
+pairsLength = 2048
+
 -- The scratch has a table's starts, its rows of successors and its held words, low byte first, each in its part.
 pub record Stored (t : Table) (work : Bytes) : Type 0 where
   pub long : workLength ≤ length work

@@ -8,7 +8,7 @@ use Rattle.theory.specs.Orders.{rulesOf}
 use Rattle.theory.specs.Query.{readQuery}
 use Rattle.derivation.specs.Keys.{keySteps}
 use Rattle.closure.specs.Work.{packMarks, nodesOf}
-use Rattle.closure.proofs.CountLaws.{held}
+use Rattle.marks.specs.Marks.{marksBelow}
 use Rattle.closure.proofs.GrownLaws.{Grown}
 use Rattle.closure.proofs.RuleLaws.{own-rules}
 use Rattle.closure.proofs.VisitLaws.{Done, done-none, visit-less, visit-done}
@@ -22,7 +22,7 @@ Inv-loop query nodes n marks₀ set wanted longest own m visited₀ marks visite
     × ((ms : Marks) → length ms ≡ n → marks₀ ≡ packMarks ms → Grown (nodesOf query) (Taking query set ms) ms marks)
 
 abbrev μ-loop : tie.MeasureT-loop
-μ-loop query nodes n marks₀ set wanted longest own m visited₀ marks visited = n - held n marks
+μ-loop query nodes n marks₀ set wanted longest own m visited₀ marks visited = n - marksBelow n marks
 
 slice-aggregate-list : tie.Need-slice-aggregate-list Inv-loop μ-loop
 slice-aggregate-list c = search needs

@@ -1,7 +1,7 @@
 -- `closure::close::turn` meets its contract: a node that is not marked or was visited is passed over, another is visited.
 use mathlib.Core.Path.{_≡_, sym, ap, _∙_}
 use mathlib.Core.Bool.{true, false, false≢true, not, Bool·not-not}
-use Rattle.closure.specs.Marks.{inMarks}
+use Rattle.marks.specs.Marks.{inMarks}
 use Rattle.closure.proofs.VisitLaws.{turn-over, turn-visit}
 use borrow.Author.Needs.{needs}
 use Rattle.closure.proofs.close.turn.Statement.{statement}

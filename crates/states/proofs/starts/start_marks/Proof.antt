@@ -10,7 +10,7 @@ use Rattle.theory.specs.Construction.{marks}
 use Rattle.theory.specs.Query.{readQuery}
 use Rattle.query.proofs.ReadLaws.{produced-at}
 use Rattle.closure.specs.Work.{packMarks, nodesOf}
-use Rattle.closure.specs.Marks.{withMark}
+use Rattle.marks.specs.Marks.{withMark}
 use Rattle.closure.proofs.MarkLaws.{pack-length}
 use Rattle.states.proofs.StartLaws.{shortest, pack-none, place-of, place-bound, marked-more, start-marked}
 use Rattle.states.proofs.starts.start_marks.Statement.{statement}
@@ -50,7 +50,7 @@ mark-requires c κs =
     let b = now (a .query) in
     let l = c .before .before .before .before .before .loop in
     let e = place-of (s .pre .0) (a .p) (s .pre .1) (l .i) (c .before .before .before .before .before .before .before .order .ensures .order) (c .before .before .before .front .ensures .order) (c .before .before .key .ensures) (c .before .find .ensures) in
-    (ap length (l .inv .1) ∙ pack-length _, omega (arith, e, place-bound (s .pre .0) (a .p) (s .pre .1) (l .i)))
+    omega (arith, e, ap length (l .inv .1) ∙ pack-length _, place-bound (s .pre .0) (a .p) (s .pre .1) (l .i))
 
 add-i : tie.Need-add-i Inv-loop μ-loop
 add-i c = search needs

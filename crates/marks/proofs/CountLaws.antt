@@ -1,4 +1,4 @@
--- How many of the first n nodes are in a set: putting in a node that was not there makes them more.
+-- What is in a set with one number more, and how many of the numbers below n are in a set: putting in one that was not there makes them more.
 use Prim.Native.Nat.{ℕ, zero, suc, _+_, _/_, _%_, _^_, _<_, _≤_}
 use native.Mathlib.Nat.{not-suc-le-zero, le-of-suc-le-suc, eq-or-lt-of-le}
 use native.Mathlib.Omega.{arith}
@@ -15,13 +15,13 @@ use Rattle.theory.specs.Table.{bit}
 use Rattle.theory.proofs.Reflect.{says-eqb}
 use Rattle.theory.proofs.RowLaws.{bit-below}
 use Rattle.theory.proofs.BitLaws.{raised-has, raised-keeps, raised-only}
-use Rattle.closure.specs.Marks.{inMarks, withMark}
+use Rattle.marks.specs.Marks.{inMarks, withMark, marksBelow}
 
 pub mark-length : (m : Bytes) (i : ℕ) → length (withMark m i) ≡ length m
 unfolding withMark
 mark-length m i = length-set m (i / 8) _
 
--- a set with one node more has that node, and those that it had
+-- a set with one number more has that one, and those that it had
 module _ (m : Bytes) (i : ℕ) (within : i / 8 < length m) where
   byte-same : (j : ℕ) → j / 8 ≡ i / 8 → byteAt (withMark m i) (j / 8) ≡ bitOr (byteAt m (j / 8)) (2 ^ (i % 8))
   unfolding withMark
@@ -48,30 +48,26 @@ module _ (m : Bytes) (i : ℕ) (within : i / 8 < length m) where
           (raised-only (byteAt m (j / 8)) (i % 8) (j % 8) (sym (ap (λ n. eqb (n / 2 ^ (j % 8) % 2) 1) (byte-same j e)) ∙ h))
       go (fails n) = inr (rw (getD-set-other m (i / 8) (j / 8) (bitOr (byteAt m (i / 8)) (2 ^ (i % 8))) 0 n) at h)
 
-abbrev pub held : ℕ → Bytes → ℕ
-held zero m = zero
-held (suc n) m = bit (inMarks m n) + held n m
-
-pub held-few : (n : ℕ) (m : Bytes) → held n m ≤ n
-held-few zero m = omega arith
-held-few (suc n) m = omega (arith, bit-below (inMarks m n), held-few n m)
+pub below-few : (n : ℕ) (m : Bytes) → marksBelow n m ≤ n
+below-few zero m = omega arith
+below-few (suc n) m = omega (arith, bit-below (inMarks m n), below-few n m)
 
 module _ (m m′ : Bytes) (keeps : (j : ℕ) → inMarks m j ≡ true → inMarks m′ j ≡ true) where
   bit-more : (a b : Bool) → (a ≡ true → b ≡ true) → bit a ≤ bit b
   bit-more true b f = rw (f refl) (omega arith)
   bit-more false b f = omega arith
 
-  held-more : (n : ℕ) → held n m ≤ held n m′
-  held-more zero = omega arith
-  held-more (suc n) = omega (arith, bit-more (inMarks m n) (inMarks m′ n) (keeps n), held-more n)
+  below-more : (n : ℕ) → marksBelow n m ≤ marksBelow n m′
+  below-more zero = omega arith
+  below-more (suc n) = omega (arith, bit-more (inMarks m n) (inMarks m′ n) (keeps n), below-more n)
 
-  pub held-grows : (n i : ℕ) → i < n → inMarks m i ≡ false → inMarks m′ i ≡ true → held n m < held n m′
-  held-grows zero i h a b = absurd (not-suc-le-zero h)
-  held-grows (suc n) i h a b =
+  pub below-grows : (n i : ℕ) → i < n → inMarks m i ≡ false → inMarks m′ i ≡ true → marksBelow n m < marksBelow n m′
+  below-grows zero i h a b = absurd (not-suc-le-zero h)
+  below-grows (suc n) i h a b =
       ⊎-elim
       (λ e.
       let was : bit (inMarks m n) ≡ 0 = ap (λ k. bit (inMarks m k)) (sym e) ∙ ap bit a in
       let is : bit (inMarks m′ n) ≡ 1 = ap (λ k. bit (inMarks m′ k)) (sym e) ∙ ap bit b in
-      omega (arith, held-more n))
-      (λ l. omega (arith, bit-more (inMarks m n) (inMarks m′ n) (keeps n), held-grows n i l a b))
+      omega (arith, below-more n))
+      (λ l. omega (arith, bit-more (inMarks m n) (inMarks m′ n) (keeps n), below-grows n i l a b))
       (eq-or-lt-of-le (le-of-suc-le-suc h))

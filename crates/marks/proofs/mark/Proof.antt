@@ -1,4 +1,4 @@
--- `closure::marks::mark` meets its contract: the shift gives the bit's own power of two.
+-- `marks::mark` meets its contract: the shift gives the bit's own power of two.
 use Prim.Native.Nat.{_*_, _/_, _%_, _^_}
 use native.Mathlib.Nat.{one-mul}
 use native.Mathlib.Omega.{arith}
@@ -7,9 +7,9 @@ use denote.Ref.{now}
 use lib.ListN.{length-set}
 use lib.Pow.{shl-exact}
 use borrow.Author.Needs.{needs}
-use Rattle.closure.specs.Marks.{withMark}
-use Rattle.closure.proofs.marks.mark.Statement.{statement}
-use Rattle.closure.proofs.marks.mark.Tie as tie
+use Rattle.marks.specs.Marks.{withMark}
+use Rattle.marks.proofs.mark.Statement.{statement}
+use Rattle.marks.proofs.mark.Tie as tie
 
 slice-read-marks : tie.Need-slice-read-marks
 slice-read-marks c = search needs
@@ -31,7 +31,7 @@ unfolding withMark
 returns c =
     let a = c .before .args in
     let e : 1 * 2 ^ (a .i % 8) % 256 ≡ 2 ^ (a .i % 8) = shl-exact 1 (a .i % 8) 8 (omega arith) (omega arith) ∙ one-mul (2 ^ (a .i % 8)) in
-    rw e (refl, length-set (now (a .marks)) (a .i / 8) _ ∙ c .before .pre .0)
+    rw e (refl, length-set (now (a .marks)) (a .i / 8) _)
 
 pub mark-spec : {M : Type 1} → statement M
 mark-spec =

@@ -1,0 +1,2 @@
+-- What callers know of a set of numbers as bytes.
+pub mod CountLaws
