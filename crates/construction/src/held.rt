@@ -1,6 +1,6 @@
 // The interesting orders that each state holds, as words, bit i for order i.
-use marks::marked;
 use derivation::keys::key;
+use marks::marked;
 use nodes::find;
 use numbers::limits::HELD_WIDTH;
 use numbers::scratch::HELD_PART;

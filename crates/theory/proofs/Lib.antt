@@ -28,5 +28,6 @@ pub mod Faithfulness
 pub mod BuildLaws
 pub mod ConstructionLaws
 pub mod DemandThree
+pub mod WordLaws
 pub mod VerificationLaws
 pub mod SuppliedTables

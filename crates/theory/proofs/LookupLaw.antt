@@ -16,7 +16,8 @@ use Rattle.theory.specs.Machine.{AllBelow, runs}
 use Rattle.theory.specs.Query.{Bytes, byteAt}
 use Rattle.theory.specs.Table.{refuse, grant, enter, takeIn, ask, statesIn, producedIn, testedIn, setsIn, sizesIn, startIn, successorIn, heldIn, heldBit, heldOrders, machineIn, bit}
 use Rattle.theory.specs.Lookups.{Lookup, entry, taking, asking, run, Answers, done, entry-refused, entry-granted, take-refused, take-granted, ask-refused, ask-granted, Faithful}
-use Rattle.theory.proofs.Reflect.{says-true, says-eqb, says-ltb}
+use Rattle.theory.proofs.Reflect.{says-true, says-ltb}
+use Rattle.theory.proofs.RowLaws.{bit-tested}
 use Rattle.theory.proofs.RangeLaws.{entry-of}
 use Rattle.theory.proofs.MachineLaws.{below-nil, below-snoc, runs-snoc, Inside, inside-after}
 
@@ -32,14 +33,6 @@ below-or-not {C} m {n} {k} e below other = go (says-ltb m n)
 pick-same : {A : Type 0} (b : Bool) (x : A) → pick b x x ≡ x
 pick-same true x = refl
 pick-same false x = refl
-
--- a bit tested for 1 is that bit
-bit-tested : (x : ℕ) → x % 2 ≡ bit (eqb (x % 2) 1)
-bit-tested x = go (says-eqb (x % 2) 1)
-  where
-    go : {b : Bool} → Says (x % 2 ≡ 1) b → x % 2 ≡ bit b
-    go (holds e) = e
-    go (fails n) = omega arith
 
 -- the held bit of an interesting order, from the list of held orders
 held-listed : (t : Bytes) (state i : ℕ) → i < producedIn t + testedIn t → heldBit t state i ≡ bit (getD (heldOrders t state) i false)

@@ -115,20 +115,27 @@ module _ {X Y : Type 0} (m : Machine X) (k : Machine Y) where
             differ = λ h. says-false (says-alike (t .0)) (t .2) (subst (λ w. m .held (w .0) ≡ k .held (w .1)) (arrives-both (t .0) r) h);
           }
 
--- two machines whose states are numbers, at most 128 each, have no more than 16,384 pairs
-module _ {m k : Machine ℕ} {z : Sizes} {a b : ℕ} (i : Inside m z a) (j : Inside k z b) (few : a ≤ maxStates) (few′ : b ≤ maxStates) where
-  abbrev pairOf : ℕ → ℕ × ℕ
-  pairOf n = (n / maxStates, n % maxStates)
+-- two machines whose states are numbers: those of a reached pair stay below, and of at most 128 states each there are no more than 16,384 pairs
+module _ {m k : Machine ℕ} {z : Sizes} {a b : ℕ} (i : Inside m z a) (j : Inside k z b) where
+  pub both-below : (x : ℕ × ℕ) → Reached (both m k) z x → (x .0 < a) × (x .1 < b)
+  both-below x r =
+      subst (λ w. (w .0 < a) × (w .1 < b)) (arrives-both m k z x r)
+      (inside-after i (r .order) (r .sets) (r .produced) (r .below), inside-after j (r .order) (r .sets) (r .produced) (r .below))
 
-  pair-listed : (x y : ℕ) → x < a → y < b → List·Memᴰ (x, y) (map pairOf (upFrom 0 maxPairs))
-  pair-listed x y h l =
-      let first : (maxStates * x + y) / maxStates ≡ x = omega arith in
-      let second : (maxStates * x + y) % maxStates ≡ y = omega arith in
-      let same : pairOf (maxStates * x + y) ≡ (x, y) = ap₂ (λ a b. (a, b)) first second in
-      subst (λ w. List·Memᴰ w (map pairOf (upFrom 0 maxPairs))) same (Memᴰ·map pairOf (upFrom-member 0 maxPairs {x = maxStates * x + y} (omega arith) (omega arith)))
+  module _ (few : a ≤ maxStates) (few′ : b ≤ maxStates) where
+    abbrev pairOf : ℕ → ℕ × ℕ
+    pairOf n = (n / maxStates, n % maxStates)
 
-  pub pairs-few : Decides (m .same) → Decides (k .same) → length (numberedWithin (both m k) maxPairs z) ≤ maxPairs
-  pairs-few d e =
-      numbered-few (both m k) z (decides-both m k d e) maxPairs (map pairOf (upFrom 0 maxPairs)) (omega (arith, entry-count pairOf 0 maxPairs))
-      (λ x r. subst (λ w. List·Memᴰ w (map pairOf (upFrom 0 maxPairs))) (arrives-both m k z x r)
-      (pair-listed _ _ (inside-after i (r .order) (r .sets) (r .produced) (r .below)) (inside-after j (r .order) (r .sets) (r .produced) (r .below))))
+    pair-listed : (x : ℕ × ℕ) → (x .0 < a) × (x .1 < b) → List·Memᴰ x (map pairOf (upFrom 0 maxPairs))
+    pair-listed (x, y) h =
+        let l = h .0 in
+        let l′ = h .1 in
+        let first : (maxStates * x + y) / maxStates ≡ x = omega arith in
+        let second : (maxStates * x + y) % maxStates ≡ y = omega arith in
+        let same : pairOf (maxStates * x + y) ≡ (x, y) = ap₂ (λ a b. (a, b)) first second in
+        subst (λ w. List·Memᴰ w (map pairOf (upFrom 0 maxPairs))) same (Memᴰ·map pairOf (upFrom-member 0 maxPairs {x = maxStates * x + y} (omega arith) (omega arith)))
+
+    pub pairs-few : Decides (m .same) → Decides (k .same) → length (numberedWithin (both m k) maxPairs z) ≤ maxPairs
+    pairs-few d e =
+        numbered-few (both m k) z (decides-both m k d e) maxPairs (map pairOf (upFrom 0 maxPairs)) (omega (arith, entry-count pairOf 0 maxPairs))
+        (λ x r. pair-listed x (both-below x r))

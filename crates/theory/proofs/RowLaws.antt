@@ -10,10 +10,11 @@ use lib.Dec.{eqb}
 use lib.ListN.{length, take, drop, getD, length-append}
 use lib.Pow.{pow-mono}
 use lib.Seq.{take-at, drop-append-add, getD-take, getD-drop}
-use Rattle.theory.specs.Tests.{upFrom}
+use Rattle.theory.specs.Tests.{Says, holds, fails, upFrom}
 use Rattle.theory.specs.Refusals.{passed, firstOf}
 use Rattle.theory.specs.Query.{byteAt, rowAt}
 use Rattle.theory.specs.Table.{bit, number, heldBytes}
+use Rattle.theory.proofs.Reflect.{says-eqb}
 use Rattle.theory.proofs.ListLaws.{member-flatten}
 
 module _ {A : Type 0} where
@@ -80,7 +81,7 @@ module _ (w : ℕ) where
       → rowAt base w i (front ++ (flatten rows ++ back)) ≡ getD rows i []
   row-of-rows base front rows back i h e l = rw (← e, drop-append-add) (row-of-flatten rows back i h l)
 
--- a bit is 0 or 1, and tested for 1 it is the Boolean that it came from
+-- a bit is 0 or 1, tested for 1 it is the Boolean that it came from, and a remainder by 2 is the bit of its test
 pub bit-below : (b : Bool) → bit b < 2
 bit-below true = omega arith
 bit-below false = omega arith
@@ -88,6 +89,13 @@ bit-below false = omega arith
 pub eqb-bit : (b : Bool) → eqb (bit b) 1 ≡ b
 eqb-bit true = refl
 eqb-bit false = refl
+
+pub bit-tested : (x : ℕ) → x % 2 ≡ bit (eqb (x % 2) 1)
+bit-tested x = go (says-eqb (x % 2) 1)
+  where
+    go : {b : Bool} → Says (x % 2 ≡ 1) b → x % 2 ≡ bit b
+    go (holds e) = e
+    go (fails n) = omega arith
 
 -- bit k of a number is entry k of the bits that it was made from
 pub number-bit : (bs : List Bool) (k : ℕ) → number bs / 2 ^ k % 2 ≡ bit (getD bs k false)
