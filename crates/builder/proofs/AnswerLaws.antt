@@ -1,14 +1,18 @@
 -- What a caller of the builder knows of the table, from an answer without refusal.
-use Prim.Native.Nat.{ℕ}
+use Prim.Native.Nat.{ℕ, _≤_}
 use native.Mathlib.Omega.{arith}
 use mathlib.Core.Path.{_≡_, refl}
+use lib.ListN.{length}
+use Rattle.theory.specs.Limits.{longestTable}
 use Rattle.theory.specs.Refusals.{passed}
-use Rattle.theory.specs.Query.{Bytes}
-use Rattle.theory.specs.Build.{Outcome, built, outcome, Means, query-refused, scratch-short, not-constructed, output-short, table-built, many-orderings, many-states}
+use Rattle.theory.specs.Query.{Bytes, readQuery, queryRefusal}
+use Rattle.theory.specs.Table.{Table, writeTable}
+use Rattle.theory.specs.Build.{Constructs, table, Outcome, built, outcome, Means, query-refused, scratch-short, not-constructed, output-short, table-built, many-orderings, many-states}
 use Rattle.theory.proofs.BuildLaws.{outcome-means}
+use Rattle.theory.proofs.ConstructionLaws.{made}
 use Rattle.theory.proofs.DemandThree.{Built, built-faithful}
 use Rattle.table.specs.Form.{Formed}
-use Rattle.table.proofs.FormLaws.{formed}
+use Rattle.table.proofs.FormLaws.{formed, formed-short}
 use Rattle.builder.specs.Built.{answerOf}
 
 answered : {query : Bytes} {scratch output : ℕ} {o : Outcome} → Means query scratch output o → answerOf o .refusal ≡ passed → (t : Bytes) × (n : ℕ) × (o ≡ built t n)
@@ -26,3 +30,9 @@ granted query scratch output = answered (outcome-means query scratch output)
 -- .. and it has a table's form
 pub built-formed : {query t : Bytes} {n : ℕ} → Built query t n → Formed t
 built-formed {t} b = formed t (built-faithful b .form)
+
+-- no table is longer than 1,292 bytes: a build with so much room is not refused for it
+pub table-room : (query : Bytes) {t : Table} {n : ℕ} → queryRefusal query ≡ passed → Constructs (readQuery query) (table t n) → length (writeTable t) ≤ longestTable
+table-room query {t} {n} c d =
+    let b : Built query (writeTable t) n = record { checked = c; contents = t; made = made (readQuery query) d; bytes-are = refl } in
+    formed-short (built-formed b)

@@ -1,5 +1,4 @@
--- No table is longer than 1,292 bytes, so that a listing's build never runs out of room. No listing is longer than 7,557 bytes: the numbers in it have at
--- most three digits, and the held bits at most five.
+-- No listing is longer than 7,557 bytes: the numbers in it have at most three digits, and the held bits at most five.
 use Prim.Native.Nat.{ℕ, zero, suc, _+_, _*_, _/_, _≤_, _<_}
 use native.Mathlib.Nat.{suc-mul, mul-le-mul-right, le-trans}
 use native.Mathlib.Omega.{arith}
@@ -24,12 +23,6 @@ use Rattle.table.specs.Form.{Formed}
 use Rattle.table.proofs.FormLaws.{formed-short}
 use Rattle.builder.proofs.AnswerLaws.{built-formed}
 use Rattle.listing.specs.Text.{longestListing}
-
--- a constructed table is not refused for the room of the longest table
-pub table-room : (query : Bytes) {t : Table} {n : ℕ} → queryRefusal query ≡ passed → Constructs (readQuery query) (table t n) → length (writeTable t) ≤ longestTable
-table-room query {t} {n} c d =
-    let b : Built query (writeTable t) n = record { checked = c; contents = t; made = made (readQuery query) d; bytes-are = refl } in
-    formed-short (built-formed b)
 
 -- The bytes are at most so many.
 pub record Short (l : Bytes) (most : ℕ) : Type 0 where

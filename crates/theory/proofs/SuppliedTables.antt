@@ -27,7 +27,7 @@ apart (many-orderings k) (its-table n _) = n k
 apart (many-states _ k) (its-table _ n) = n k
 
 -- a faithful table has the query's sizes
-faithful-sizes : {q : Query} {t : Bytes} → Faithful q t → SameSizes q t
+pub faithful-sizes : {q : Query} {t : Bytes} → Faithful q t → SameSizes q t
 faithful-sizes f = record { produced = f .produced-size; tested = f .tested-size; sets = f .sets-size }
 
 -- What is known of an accepted table.

@@ -1,4 +1,5 @@
--- Every starred trial of document 01 comes out as expected: one computed test over the table of trials, and one law that turns it into what each means.
+-- Every starred trial of document 01 comes out as expected, and so does every supplier's table on trial: one computed test over each table of trials, and one law that
+-- turns it into what each means.
 use Prim.Native.Nat.{ℕ}
 use native.Mathlib.Nat.{le-of-eq}
 use mathlib.Core.Path.{_≡_, refl, sym, _∙_, ap, ap₂, subst}
@@ -10,13 +11,14 @@ use Rattle.theory.specs.Limits.{maxNodes, maxStates, scratchLength, longestTabl
 use Rattle.theory.specs.Tests.{Says, every}
 use Rattle.theory.specs.Orders.{Query, interesting, After}
 use Rattle.theory.specs.Closure.{Exactly}
-use Rattle.theory.specs.Machine.{numberedWithin}
+use Rattle.theory.specs.Machine.{numberedWithin, agree}
 use Rattle.theory.specs.Construction.{nodes, State, states, wantedColumns, kept, steps, keptSteps, startState, takeSet, holdsIn, sizesOf, construction}
 use Rattle.theory.specs.Refusals.{passed}
 use Rattle.theory.specs.Query.{Bytes, readQuery, sizesRefusal, bodyRefusal, orderRefusal, dependencyRefusal, itemRefusal, twinRefusal, queryRefusal}
-use Rattle.theory.specs.Table.{Table, tableOf, writeTable, statesIn}
+use Rattle.theory.specs.Table.{Table, tableOf, writeTable, statesIn, formRefusal, startsRefusal, successorsRefusal, heldRefusal, tableRefusal}
 use Rattle.theory.specs.Build.{Outcome, refused, built, construct, outcome}
-use Rattle.trials.specs.Trials.{Trial, Expectation, table, builds, refusal, state-count, after, same-state, sameOutcome, outcomeOf, Builds, hasSizes, Admitted, isAdmitted, Run, isRun, stateAfter, comesOut, passes, Meets, trials}
+use Rattle.theory.specs.Verification.{mismatchRefusal, answerRefusal, suppliedRefusal, verifyRefusal}
+use Rattle.trials.specs.Trials.{Trial, Expectation, table, builds, refusal, state-count, after, same-state, verified, sameOutcome, outcomeOf, Builds, hasSizes, Admitted, isAdmitted, Run, isRun, stateAfter, comesOut, passes, Meets, trials, supplied}
 use Rattle.theory.proofs.Reflect.{says-true, false-says, says-every, says-by, says-as, says-and, says-not, says-eqb, says-ltb, decides-list, decides-number, decides-marks, decides-bool}
 use Rattle.theory.proofs.ListLaws.{member-getD}
 use Rattle.theory.proofs.MachineLaws.{numbered-distinct, numbered-exactly}
@@ -28,6 +30,11 @@ use Rattle.theory.proofs.DemandThree.{Built, built-facts}
 all-pass : every passes trials ≡ true
 unfolding flatten wantedColumns kept steps keptSteps nodes startState takeSet numberedWithin readQuery sizesRefusal bodyRefusal orderRefusal dependencyRefusal itemRefusal twinRefusal queryRefusal tableOf writeTable construct outcome comesOut
 all-pass = refl
+
+-- .. and of the suppliers' tables
+all-supplied : every passes supplied ≡ true
+unfolding flatten wantedColumns kept steps keptSteps nodes startState takeSet numberedWithin readQuery sizesRefusal bodyRefusal orderRefusal dependencyRefusal itemRefusal twinRefusal queryRefusal tableOf construct formRefusal startsRefusal successorsRefusal heldRefusal tableRefusal agree mismatchRefusal answerRefusal suppliedRefusal verifyRefusal comesOut
+all-supplied = refl
 
 same-outcome : (r o : Outcome) → sameOutcome r o ≡ true → r ≡ o
 same-outcome (refused m) (refused n) e = ap refused (says-true (says-eqb m n) e)
@@ -104,6 +111,7 @@ meets query (after p ss i held) e =
           (says-held q (nodes q) (nodes-exactly q few) (getD (q .produced) p []) order ss
           (member-getD (q .produced) p [] (h .1 .0 .produced)) (member-getD (interesting q) i [] (h .1 .1 .0))),
     )
+meets query (verified t n) e = says-true (says-eqb (verifyRefusal query t scratchLength) n) e
 meets query (same-state p ss rs) e =
     let q = readQuery query in
     let h =
@@ -112,6 +120,13 @@ meets query (same-state p ss rs) e =
     e in
     (h .0, h .1 .0, h .1 .1 .0, h .1 .1 .1)
 
--- Every starred trial comes out as document 01 says.
+-- Every starred trial comes out as document 01 says, ..
+all-meet : (ts : List Trial) → every passes ts ≡ true → (t : Trial) → List·Memᴰ t ts → Meets (t .query) (t .expected)
+all-meet ts e t m = meets (t .query) (t .expected) (says-true (says-every (λ u. says-by (passes u) (λ e. e) (λ e k. false≢true (sym e ∙ k))) ts) e t m)
+
 pub trials-theorem : (t : Trial) → List·Memᴰ t trials → Meets (t .query) (t .expected)
-trials-theorem t m = meets (t .query) (t .expected) (says-true (says-every (λ u. says-by (passes u) (λ e. e) (λ e k. false≢true (sym e ∙ k))) trials) all-pass t m)
+trials-theorem = all-meet trials all-pass
+
+-- .. and every supplier's table as its trial says.
+pub supplied-theorem : (t : Trial) → List·Memᴰ t supplied → Meets (t .query) (t .expected)
+supplied-theorem = all-meet supplied all-supplied

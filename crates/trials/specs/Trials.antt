@@ -1,4 +1,4 @@
--- Document 01, "Trials at the edges": the starred trials, as one table of queries and what is expected of each.
+-- Document 01, "Trials at the edges": the starred trials, as one table of queries and what is expected of each; and suppliers' tables on trial, as another.
 use Prim.Native.Nat.{ℕ, _<_}
 use mathlib.Core.Path.{_≡_}
 use mathlib.Core.Bool.{Bool, true, false, _&&_, not, Bool·beq}
@@ -15,6 +15,7 @@ use Rattle.theory.specs.Refusals.{passed}
 use Rattle.theory.specs.Query.{Bytes, readQuery, queryRefusal}
 use Rattle.theory.specs.Table.{statesIn}
 use Rattle.theory.specs.Build.{Outcome, refused, built, outcome}
+use Rattle.theory.specs.Verification.{verifyRefusal}
 
 -- What is expected of a query.
 pub data Expectation : Type 0 where
@@ -30,6 +31,8 @@ pub data Expectation : Type 0 where
   after : ℕ → List ℕ → ℕ → Bool → Expectation
   -- from a produced order, by number, two lists of sets lead to one state
   same-state : ℕ → List ℕ → List ℕ → Expectation
+  -- the trial of a supplier's table comes to this number, 0 where it is accepted
+  verified : Bytes → ℕ → Expectation
 
 pub record Trial : Type 0 where
   pub query : Bytes
@@ -85,6 +88,7 @@ comesOut query q ns (refusal n) = sameOutcome (outcomeOf query) (refused n)
 comesOut query q ns (state-count n) = isAdmitted query ns && eqb (length (numberedWithin (construction q ns) n (sizesOf q))) n
 comesOut query q ns (after p ss i held) =
     isAdmitted query ns && (isRun q p ss && (ltb i (length (interesting q)) && Bool·beq (holdsIn ns (stateAfter q ns p ss) (getD (interesting q) i [])) held))
+comesOut query q ns (verified t n) = eqb (verifyRefusal query t scratchLength) n
 comesOut query q ns (same-state p ss rs) = isAdmitted query ns && (isRun q p ss && (isRun q p rs && sameMarks (stateAfter q ns p ss) (stateAfter q ns p rs)))
 
 abbrev pub passes : Trial → Bool
@@ -98,6 +102,7 @@ Meaning query q ns (refusal n) = outcomeOf query ≡ refused n
 Meaning query q ns (state-count n) = Admitted query × Exactly n (State q ns)
 Meaning query q ns (after p ss i held) =
     Admitted query × Run q p ss × (i < length (interesting q)) × Says (After q (getD (q .produced) p []) ss (getD (interesting q) i [])) held
+Meaning query q ns (verified t n) = verifyRefusal query t scratchLength ≡ n
 Meaning query q ns (same-state p ss rs) = Admitted query × Run q p ss × Run q p rs × (stateAfter q ns p ss ≡ stateAfter q ns p rs)
 
 abbrev pub Meets : Bytes → Expectation → Type 0
@@ -169,4 +174,19 @@ trials =
     record { query = eight-sets; expected = refusal 8 } ∷
     record { query = repeated-column; expected = refusal 5 } ∷
     record { query = column-past-the-end; expected = refusal 4 } ∷
+    []
+
+-- Document 02, Req 01: suppliers' tables on trial. Accepted: our own, one with other state numbers, one with two rows that behave alike, one with a row that no start
+-- reaches. Refused: one with another number of tested orders; one that claims (b) from (a) by a pair of fixes; one made with the prefix test; one that is wrong only
+-- after three sets.
+abbrev pub supplied : List Trial
+supplied =
+    record { query = example; expected = verified (5 ∷ 2 ∷ 2 ∷ 2 ∷ 0 ∷ 1 ∷ 2 ∷ 0 ∷ 1 ∷ 3 ∷ 2 ∷ 4 ∷ 3 ∷ 3 ∷ 4 ∷ 4 ∷ 1 ∷ 0 ∷ 2 ∷ 0 ∷ 5 ∷ 0 ∷ 10 ∷ 0 ∷ 5 ∷ 0 ∷ []) 0 } ∷
+    record { query = example; expected = verified (5 ∷ 2 ∷ 2 ∷ 2 ∷ 3 ∷ 0 ∷ 0 ∷ 1 ∷ 1 ∷ 1 ∷ 2 ∷ 2 ∷ 4 ∷ 3 ∷ 4 ∷ 2 ∷ 2 ∷ 0 ∷ 10 ∷ 0 ∷ 5 ∷ 0 ∷ 1 ∷ 0 ∷ 5 ∷ 0 ∷ []) 0 } ∷
+    record { query = example; expected = verified (6 ∷ 2 ∷ 2 ∷ 2 ∷ 0 ∷ 1 ∷ 2 ∷ 0 ∷ 1 ∷ 3 ∷ 2 ∷ 4 ∷ 5 ∷ 3 ∷ 4 ∷ 4 ∷ 3 ∷ 5 ∷ 1 ∷ 0 ∷ 2 ∷ 0 ∷ 5 ∷ 0 ∷ 10 ∷ 0 ∷ 5 ∷ 0 ∷ 10 ∷ 0 ∷ []) 0 } ∷
+    record { query = constant; expected = verified (3 ∷ 1 ∷ 1 ∷ 1 ∷ 0 ∷ 2 ∷ 0 ∷ 2 ∷ 1 ∷ 0 ∷ 2 ∷ 0 ∷ 3 ∷ 0 ∷ []) 0 } ∷
+    record { query = example; expected = verified (3 ∷ 2 ∷ 1 ∷ 2 ∷ 0 ∷ 1 ∷ 2 ∷ 0 ∷ 1 ∷ 1 ∷ 2 ∷ 2 ∷ 1 ∷ 0 ∷ 2 ∷ 0 ∷ 5 ∷ 0 ∷ []) 12 } ∷
+    record { query = fix-pair; expected = verified (2 ∷ 1 ∷ 1 ∷ 1 ∷ 0 ∷ 1 ∷ 1 ∷ 1 ∷ 0 ∷ 3 ∷ 0 ∷ []) 13 } ∷
+    record { query = both-ways; expected = verified (3 ∷ 1 ∷ 1 ∷ 2 ∷ 0 ∷ 0 ∷ 1 ∷ 2 ∷ 1 ∷ 2 ∷ 2 ∷ 1 ∷ 0 ∷ 1 ∷ 0 ∷ 3 ∷ 0 ∷ []) 13 } ∷
+    record { query = not-remembered; expected = verified (5 ∷ 1 ∷ 1 ∷ 2 ∷ 0 ∷ 1 ∷ 2 ∷ 1 ∷ 3 ∷ 4 ∷ 2 ∷ 3 ∷ 3 ∷ 4 ∷ 4 ∷ 1 ∷ 0 ∷ 1 ∷ 0 ∷ 1 ∷ 0 ∷ 1 ∷ 0 ∷ 3 ∷ 0 ∷ []) 13 } ∷
     []

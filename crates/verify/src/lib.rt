@@ -1,0 +1,73 @@
+// A supplier's table on trial: the query's own checks and table, then the supplier's table beside it.
+use numbers::limits::LONGEST_TABLE;
+use numbers::refusals;
+use numbers::scratch::PAIRS_LENGTH;
+ghost use mathlib.Core.Path.{_≡_};
+ghost use lib.ListN.{length};
+ghost use Rattle.theory.specs.Scratch.{pairsLength};
+ghost use Rattle.theory.specs.Query.{readQuery};
+ghost use Rattle.theory.specs.Build.{construct, scratchAfter, zeroed};
+ghost use Rattle.theory.specs.Verification.{mismatchRefusal, verifiedWith, verifyRefusal};
+ghost use Rattle.verify.specs.Own.{Own};
+
+// The check 12: P, T or S differ from the query's.
+fn mismatch(query: &[u8], table: &[u8]) -> u8
+    ensures { λ r. ⌜ r ≡ mismatchRefusal (readQuery (now (query .entry))) (now (table .entry)) ⌝ }
+{
+    if table::produced(table) != query::produced(query) as usize {
+        return refusals::MISMATCH;
+    }
+    if table::tested(table) != query::tested(query) as usize {
+        return refusals::MISMATCH;
+    }
+    if table::sets(table) != query::sets(query) as usize {
+        return refusals::MISMATCH;
+    }
+    refusals::PASSED
+}
+
+// The checks of a supplier's table beside the query's own: its form, then 12, then 13.
+fn supplied(query: &[u8], ours: &[u8], table: &[u8], pairs: &mut [u8]) -> u8
+    requires { ⌜ Own (now query) (now ours) × (length (now pairs) ≡ pairsLength) ⌝ }
+    ensures { λ r. ⌜ (r ≡ verifiedWith (readQuery (now (query .entry))) (construct (readQuery (now (query .entry)))) (now (table .entry))) × (length (now (pairs .exit)) ≡ length (now (pairs .entry))) ⌝ }
+{
+    let form = table::check(table);
+    if form != refusals::PASSED {
+        return form;
+    }
+    let sizes = mismatch(query, table);
+    if sizes != refusals::PASSED {
+        return sizes;
+    }
+    if pairs::same_answers(ours, table, pairs) {
+        refusals::PASSED
+    } else {
+        refusals::ANSWER
+    }
+}
+
+// The same, and the memory of the pairs cleared behind it.
+fn supplied_cleared(query: &[u8], ours: &[u8], table: &[u8], pairs: &mut [u8]) -> u8
+    requires { ⌜ Own (now query) (now ours) × (length (now pairs) ≡ pairsLength) ⌝ }
+    ensures { λ r. ⌜ (r ≡ verifiedWith (readQuery (now (query .entry))) (construct (readQuery (now (query .entry)))) (now (table .entry))) × (now (pairs .exit) ≡ zeroed (length (now (pairs .entry))) (now (pairs .entry))) ⌝ }
+{
+    let refusal = supplied(query, ours, table, pairs);
+    byte_rows::clear(pairs);
+    refusal
+}
+
+// Verify a supplier's table against a query, whatever their bytes and whatever is lent: the query's checks 1 to 6, 9 for scratch, 7 and 8; then the table's form,
+// 12 and 13. 0 where the table is accepted.
+pub fn verify(query: &[u8], table: &[u8], scratch: &mut [u8]) -> u8
+    ensures { λ r. ⌜ r ≡ verifyRefusal (now (query .entry)) (now (table .entry)) (length (now (scratch .entry))) ⌝ }
+    ensures { λ r. ⌜ now (scratch .exit) ≡ scratchAfter (now (query .entry)) (now (scratch .entry)) ⌝ }
+{
+    let mut ours = [0u8; LONGEST_TABLE];
+    let built = builder::build(query, scratch, &mut ours);
+    let refusal = built.refusal;
+    if refusal != refusals::PASSED {
+        return refusal;
+    }
+    let length = built.length;
+    supplied_cleared(query, &ours[..length], table, &mut scratch[..PAIRS_LENGTH])
+}
