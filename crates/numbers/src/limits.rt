@@ -47,8 +47,10 @@ pub const LONGEST_LISTING: usize = 7557;
 
 pub const LONGEST_REFUSAL: usize = 12;
 
-// No query is longer than 165 bytes: the first 256 of a longer input are refused as the whole is.
-pub const INPUT_FRONT: usize = 256;
+// No query is longer than 165 bytes: the first 256 of a longer input are refused as the whole is. No table is longer than 1,292: so are the first 1,293.
+pub const QUERY_FRONT: usize = 256;
+
+pub const TABLE_FRONT: usize = 1293;
 
 // The least scratch that a build takes.
 pub const SCRATCH_LENGTH: usize = 16384;

@@ -5,8 +5,8 @@
 use libc::STDERR_FILENO;
 use libc::STDIN_FILENO;
 use libc::STDOUT_FILENO;
-use numbers::limits::INPUT_FRONT;
 use numbers::limits::LONGEST_LISTING;
+use numbers::limits::QUERY_FRONT;
 use numbers::limits::SCRATCH_LENGTH;
 ghost use Prim.Native.Nat.{_≤_};
 ghost use lib.ListN.{length};
@@ -57,7 +57,7 @@ fn print(front: &[u8]) -> bool {
 
 // A program cannot set its exit status yet, so what failed is said on standard error.
 fn main() {
-    let mut buffer = [0u8; INPUT_FRONT];
+    let mut buffer = [0u8; QUERY_FRONT];
     let input = read_front(&mut buffer);
     let Input::Front(n) = input else {
         io::write_all(STDERR_FILENO, b"cannot read the query\n");

@@ -20,6 +20,11 @@ pub refused-else : (t : Bool) {x y : ℕ} → pick t x y ≡ passed → 0 < y �
 refused-else true e h = (refl, e)
 refused-else false e h = let z : ⊥ = omega arith in absurd z
 
+-- alike behind a test where they are alike when it does not refuse
+pub pick-alike : (t : Bool) (x : ℕ) {y z : ℕ} → (t ≡ false → y ≡ z) → pick t x y ≡ pick t x z
+pick-alike true x h = refl
+pick-alike false x h = h refl
+
 pub neither : (s t : Bool) → (s || t) ≡ false → (s ≡ false) × (t ≡ false)
 neither false t e = (refl, e)
 neither true t e = absurd (true≢false e)

@@ -63,6 +63,14 @@ heldWidth = 2
 abbrev pub longestTable : ℕ
 longestTable = 1292
 
+-- So many bytes of a query, and of a table, decide: no query has more than 165 bytes and no table more than 1,292, and the first 256 and the first 1,293 of a
+-- longer one are refused as the whole is.
+abbrev pub queryFront : ℕ
+queryFront = 256
+
+abbrev pub tableFront : ℕ
+tableFront = 1293
+
 -- The least scratch that a build takes.
 abbrev pub scratchLength : ℕ
 scratchLength = 16384
