@@ -1,4 +1,4 @@
-// The functions for C and Rust. A build, a listing, a table check and a lookup return the refusal's number times 65,536 plus a value, which is 0 on refusal.
+// The functions for C and Rust. A build, a listing, a table check, a trial and a lookup return the refusal's number times 65,536 plus a value, which is 0 on refusal.
 use lookup::Asked;
 use lookup::Mark;
 use lookup::codes;
@@ -18,6 +18,7 @@ ghost use Rattle.theory.specs.Limits.{bodyWidth, equalKind, tableSizes};
 ghost use Rattle.theory.specs.Query.{queryRefusal, orderCount, orderAt, dependencyAt};
 ghost use Rattle.theory.specs.Table.{tableRefusal, enter, takeIn, ask};
 ghost use Rattle.theory.specs.Build.{outcome, outputAfter, scratchAfter};
+ghost use Rattle.theory.specs.Verification.{verifyRefusal};
 ghost use lib.ListN.{length};
 ghost use Rattle.orders.specs.Orders.{orderOf, ruleIs};
 ghost use Rattle.lookup.specs.Answers.{heldOf, refusalUnit, answerCode};
@@ -91,6 +92,15 @@ pub extern "C" fn order_table_check(table: &[u8]) -> u32
     ensures { λ r. ⌜ r ≡ refusedCode (tableRefusal (now (table .entry))) ⌝ }
 {
     codes::refused(table::check(table))
+}
+
+// Verify a supplier's table against a query.
+#[no_mangle]
+pub extern "C" fn order_table_verify(query: &[u8], table: &[u8], scratch: &mut [u8]) -> u32
+    ensures { λ r. ⌜ r ≡ refusedCode (verifyRefusal (now (query .entry)) (now (table .entry)) (length (now (scratch .entry)))) ⌝ }
+    ensures { λ r. ⌜ now (scratch .exit) ≡ scratchAfter (now (query .entry)) (now (scratch .entry)) ⌝ }
+{
+    codes::refused(verify::verify(query, table, scratch))
 }
 
 // Enter by a produced order: the state.
