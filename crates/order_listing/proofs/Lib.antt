@@ -1,2 +1,2 @@
 -- What the proofs of this program share.
-pub mod InputLaws
+pub mod ListsLaws

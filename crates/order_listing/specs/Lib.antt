@@ -1,2 +1,2 @@
 -- What the functions of this program promise.
-pub mod Input
+pub mod Lists

@@ -2,6 +2,8 @@
 //
 // No query has more than 165 bytes, so the first 256 bytes of the input are enough: their listing is that of the whole input, which is proved
 // (`listing-front`). Reading stops there, or where the input ends.
+use input::Input;
+use input::read_front;
 use libc::STDERR_FILENO;
 use libc::STDIN_FILENO;
 use libc::STDOUT_FILENO;
@@ -11,32 +13,7 @@ use numbers::limits::SCRATCH_LENGTH;
 ghost use Prim.Native.Nat.{_≤_};
 ghost use lib.ListN.{length};
 ghost use Rattle.listing.specs.Text.{longestListing};
-ghost use Rattle.order_listing.specs.Input.{Within, Lists};
-
-// How many bytes of input there are, up to a buffer's length, or that a read failed.
-enum Input {
-    Front(usize),
-    Failed,
-}
-
-// Reads until the buffer is full or the input ends, however few bytes a read gives.
-fn read_front(buffer: &mut [u8]) -> Input
-    ensures { λ r. ⌜ Within r (length (now (buffer .exit))) ⌝ }
-{
-    let mut n = 0;
-    while n < buffer.len() {
-        let got = libc::read(STDIN_FILENO, &mut buffer[n..]);
-        if got < 0 {
-            return Input::Failed;
-        }
-        let more = io::count(got, &buffer[n..]);
-        if more == 0 {
-            return Input::Front(n);
-        }
-        n += more;
-    }
-    Input::Front(n)
-}
+ghost use Rattle.order_listing.specs.Lists.{Lists};
 
 // The listing of an input, of which its first 256 bytes are given; how many bytes of the text it takes.
 fn answer(front: &[u8], text: &mut [u8]) -> usize
@@ -58,7 +35,7 @@ fn print(front: &[u8]) -> bool {
 // A program cannot set its exit status yet, so what failed is said on standard error.
 fn main() {
     let mut buffer = [0u8; QUERY_FRONT];
-    let input = read_front(&mut buffer);
+    let input = read_front(STDIN_FILENO, &mut buffer);
     let Input::Front(n) = input else {
         io::write_all(STDERR_FILENO, b"cannot read the query\n");
         return;

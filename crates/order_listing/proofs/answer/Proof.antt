@@ -2,7 +2,7 @@
 use native.Mathlib.Omega.{arith}
 use denote.Ref.{now}
 use Rattle.query_listing.proofs.RoomLaws.{room-listed}
-use Rattle.order_listing.proofs.InputLaws.{lists}
+use Rattle.order_listing.proofs.ListsLaws.{lists}
 use borrow.Author.Needs.{needs}
 use Rattle.order_listing.proofs.answer.Statement.{statement}
 use Rattle.order_listing.proofs.answer.Tie as tie

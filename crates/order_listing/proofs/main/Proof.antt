@@ -1,7 +1,7 @@
 -- `order_listing::main` prints from a part of its buffer.
 use mathlib.Core.Path.{sym}
 use lib.Seq.{length-take-le}
-use Rattle.order_listing.proofs.InputLaws.{front-within}
+use Rattle.input.proofs.WithinLaws.{front-within}
 use borrow.Author.Needs.{needs}
 use Rattle.order_listing.proofs.main.Statement.{statement}
 use Rattle.order_listing.proofs.main.Tie as tie
@@ -32,7 +32,7 @@ array-share-prefix-buffer c = let r = c .before .before .before .before .read-fr
 
 slice-aggregate-print : tie.Need-slice-aggregate-print
 slice-aggregate-print c = let r = c .before .before .before .before .before .read-front in
-    sym (length-take-le _ (r .last .0) (front-within (r .result) _ _ (r .ensures) (c .before .before .input .given .1)))
+    sym (length-take-le _ (r .last .1 .0) (front-within (r .result) _ _ (r .ensures) (c .before .before .input .given .1)))
 
 print-requires : tie.Need-print-requires
 print-requires c κs = search needs

@@ -1,16 +1,16 @@
--- `order_listing::read_front` meets its contract. Invariant of the loop: what was read lies within the buffer; measure: what is left of it.
+-- `input::read_front` meets its contract. Invariant of the loop: what was read lies within the buffer; measure: what is left of it.
 use Prim.Native.Nat.{_≤_, _-_}
 use mathlib.Core.Path.{_≡_}
 use lib.ListN.{length}
 use borrow.Author.Needs.{needs}
-use Rattle.order_listing.proofs.read_front.Statement.{statement}
-use Rattle.order_listing.proofs.read_front.Tie as tie
+use Rattle.input.proofs.read_front.Statement.{statement}
+use Rattle.input.proofs.read_front.Tie as tie
 
 abbrev Inv-loop : tie.InvT-loop
-Inv-loop buffer₀ n₀ buffer n = (length buffer ≡ length buffer₀) × (n ≤ length buffer)
+Inv-loop fd buffer₀ n₀ buffer n = (length buffer ≡ length buffer₀) × (n ≤ length buffer)
 
 abbrev μ-loop : tie.MeasureT-loop
-μ-loop buffer₀ n₀ buffer n = length buffer - n
+μ-loop fd buffer₀ n₀ buffer n = length buffer - n
 
 loop-holds : tie.Need-loop-holds Inv-loop μ-loop
 loop-holds c = search needs

@@ -1,0 +1,2 @@
+-- What a caller cites.
+pub mod WithinLaws

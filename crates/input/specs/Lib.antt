@@ -1,0 +1,2 @@
+-- What the function of this crate promises.
+pub mod Within
