@@ -1,2 +1,3 @@
--- What the proofs of this crate's functions share.
+-- What the proofs of this crate's functions share, and what holds of every trial.
+pub mod FrontLaws
 pub mod OwnLaws
