@@ -1,4 +1,4 @@
-/* Order tables: check a query and read it, build its table, check a table, look it up, list it.
+/* Order tables: check a query and read it, build its table, check a table, put a supplier's table on trial, look it up, list it.
  *
  * Every function but order_query_order and order_query_dependency returns a refusal's number times 65,536 plus a value. A refusal of 0 is none,
  * and on refusal the value is 0. Split such a result with order_table_refusal and order_table_value.
@@ -32,12 +32,14 @@ enum order_table_refusals {
     ORDER_TABLE_STATES = 8,    /* it has more than 128 states */
     ORDER_TABLE_SPACE = 9,     /* scratch below ORDER_TABLE_SCRATCH bytes, or output or text too short */
     ORDER_TABLE_HANDLE = 10,   /* state, produced order, set or interesting order not in the table */
-    ORDER_TABLE_ROW = 11       /* a start or successor that is no state of the table, or a held bit past the interesting orders */
+    ORDER_TABLE_ROW = 11,      /* a start or successor that is no state of the table, or a held bit past the interesting orders */
+    ORDER_TABLE_MISMATCH = 12, /* a table with another number of produced orders, tested orders or sets than the query */
+    ORDER_TABLE_ANSWER = 13    /* a table whose answer, from some start and through some run of sets, is wrong for the query */
 };
 
 /* Sizes in bytes. */
 enum order_table_sizes {
-    ORDER_TABLE_SCRATCH = 16384,      /* what a build or a listing takes as scratch */
+    ORDER_TABLE_SCRATCH = 16384,      /* what a build, a listing or a trial of a supplier's table takes as scratch */
     ORDER_TABLE_LONGEST_QUERY = 165,  /* five sizes, and 32 items of one head and four bytes */
     ORDER_TABLE_LONGEST_TABLE = 1292, /* four sizes, 8 starts, 128 rows of 8 successors, 128 times two bytes of held bits */
     ORDER_TABLE_LISTING = 7557        /* room for every listing */
@@ -77,6 +79,17 @@ uint32_t order_table_replay(const uint8_t *query, size_t query_length, uint8_t *
 
 /* Checks a table's form. Value: 0. Refusals: 1, 2, 11. A table that was built and not written to since passes. */
 uint32_t order_table_check(const uint8_t *table, size_t table_length);
+
+/* Puts a supplier's table on trial for a query. Value: 0, so that an accepted table gives the result 0. Where no refusal before 13 comes, a table is
+ * accepted exactly when, from every start and through every run of sets, its answer for each interesting order is the one that the derivation
+ * rules give, uncut. State numbers may differ from those of order_table_build, two rows may behave alike, and rows that no start reaches may hold
+ * anything that the form allows.
+ * Refusals, in this order: 1 to 6 of the query, 9 for scratch, 7 and 8 of the query; 1, 2 and 11 of the table, as order_table_check gives them; 12
+ * when the table's numbers of produced orders, tested orders and sets are not the query's; 13 when some answer that a start and a run of sets
+ * reach is wrong. Query and table are only read. Refusals 1 to 6 of the query, and 9, leave the scratch as it is. Afterwards its first
+ * ORDER_TABLE_SCRATCH bytes are 0 in every other case, accepted or refused; those past them keep theirs. */
+uint32_t order_table_verify(const uint8_t *query, size_t query_length, const uint8_t *table, size_t table_length, uint8_t *scratch,
+                            size_t scratch_length);
 
 /* The state that a produced order starts in. Refusals: 1, 2, 10, 11. */
 uint32_t order_table_enter(const uint8_t *table, size_t table_length, uint8_t produced);

@@ -60,6 +60,32 @@ impl Builds {
         take_turns(turns, 1, [&mut build])[0]
     }
 
+    /// Nanoseconds of a trial of a table for a query by the proved library, of one
+    /// by the second implementation, and of a build by the proved library, in
+    /// turns.
+    ///
+    /// # Panics
+    ///
+    /// When the table is refused.
+    pub fn trial_times(&mut self, turns: usize, query: &[u8], table: &[u8]) -> [f64; 3] {
+        let mut proved_scratch = vec![0; SCRATCH_BYTES];
+        let mut proved = || {
+            let (query, table) = (black_box(query), black_box(table));
+            let verified = proved::table_verify(query, table, &mut proved_scratch);
+            assert_eq!(black_box(verified), 0);
+        };
+        let mut second_scratch = vec![0; SCRATCH_BYTES];
+        let mut second = || {
+            let (query, table) = (black_box(query), black_box(table));
+            let verified = Reference::verify(query, table, &mut second_scratch);
+            assert_eq!(black_box(verified), Ok(()));
+        };
+        let mut build = || {
+            black_box(self.proved(query));
+        };
+        take_turns(turns, 1, [&mut proved, &mut second, &mut build])
+    }
+
     /// Nanoseconds of a build by the proved library and of one by the second
     /// implementation, in turns.
     pub fn both_times(&mut self, turns: usize, query: &[u8]) -> [f64; 2] {

@@ -24,6 +24,18 @@ impl Lent {
         Self { memory, before }
     }
 
+    /// So many bytes, to be lent, filled in one of several ways.
+    pub fn filled(random: &mut Random, length: usize) -> Self {
+        let bytes = match random.below(5) {
+            0 => vec![0; length],
+            1 => vec![255; length],
+            2 => vec![0b1010_1010; length],
+            3 => (0..length).map(|place| place as u8).collect(),
+            _ => any_bytes(random, length),
+        };
+        Self::new(random, &bytes)
+    }
+
     /// The bytes, without the guards.
     pub fn bytes(&self) -> &[u8] {
         inner(&self.memory)

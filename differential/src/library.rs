@@ -16,6 +16,10 @@ impl Implementation for Library {
         order_tables::list(query, scratch, text).map_err(Refusal::number)
     }
 
+    fn verify(query: &[u8], table: &[u8], scratch: &mut [u8]) -> Result<(), u8> {
+        order_tables::verify(query, Table::new(table), scratch).map_err(Refusal::number)
+    }
+
     fn enter(table: &[u8], produced: u8) -> Result<u8, u8> {
         number(Table::new(table).enter(OrderHandle(produced)))
     }

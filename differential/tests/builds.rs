@@ -3,12 +3,10 @@
 //! buffers as document 01 says. Lists of lookups on the built tables are
 //! answered as the plain model answers them.
 
-use std::env;
-
 use differential::lent::Lent;
 use differential::replay::{lookup_bytes, replayed_answers};
 use differential::tally::Tally;
-use differential::{codes, proved, Library};
+use differential::{codes, proved, rounds, Library, SCRATCH_LENGTHS};
 use order_tables::{LISTING_BYTES, LONGEST_TABLE, SCRATCH_BYTES};
 use reference::builder::build_table;
 use reference::construction::{Construction, Limits};
@@ -16,9 +14,6 @@ use reference::lookups::{model_answers, table_answers, Answer};
 use reference::random::Random;
 use reference::samples::{self, constants_among_produced, own_column_per_set, Shape};
 use reference::{buffers, listing, trials};
-
-/// Lengths of scratch around what a build takes.
-const SCRATCH_LENGTHS: [usize; 5] = [0, 16_383, 16_384, 16_385, 20_000];
 
 /// The length of a table, for queries that have none.
 const SOME_TABLE: usize = 26;
@@ -44,12 +39,6 @@ fn some_lengths(random: &mut Random, length: usize, longest: usize) -> Vec<(usiz
     lengths.truncate(2);
     lengths.push((SCRATCH_BYTES, length));
     lengths
-}
-
-/// How many rounds to go: as many as `ORDER_TABLES_ROUNDS` says, or one.
-fn rounds() -> u64 {
-    let rounds = env::var("ORDER_TABLES_ROUNDS").unwrap_or("1".to_owned());
-    rounds.parse().expect("ORDER_TABLES_ROUNDS is a number")
 }
 
 /// A comparison of builds and listings, and what was compared so far.
@@ -113,8 +102,8 @@ impl Comparison {
         call: fn(&[u8], &mut [u8], &mut [u8]) -> u32,
     ) -> u32 {
         let query = Lent::new(&mut self.random, query);
-        let mut scratch = self.filled(scratch);
-        let mut output = self.filled(output);
+        let mut scratch = Lent::filled(&mut self.random, scratch);
+        let mut output = Lent::filled(&mut self.random, output);
         let mut expected_scratch = scratch.bytes().to_vec();
         let mut expected_output = output.bytes().to_vec();
         let expected = known(&mut expected_scratch, &mut expected_output);
@@ -126,18 +115,6 @@ impl Comparison {
         assert!(output.is_now(&expected_output), "other bytes: {case}");
         assert!(scratch.is_now(&expected_scratch), "other scratch: {case}");
         code
-    }
-
-    /// So many bytes to lend, filled in one of several ways.
-    fn filled(&mut self, length: usize) -> Lent {
-        let bytes = match self.random.below(5) {
-            0 => vec![0; length],
-            1 => vec![255; length],
-            2 => vec![0b1010_1010; length],
-            3 => (0..length).map(|place| place as u8).collect(),
-            _ => samples::any_bytes(&mut self.random, length),
-        };
-        Lent::new(&mut self.random, &bytes)
     }
 
     /// Says what was compared.
@@ -256,23 +233,12 @@ fn nodes_up_to_256_and_past_them() {
     assert_eq!(comparison.queries.with(7), 2);
 }
 
-/// More columns than in small queries, and still few enough orderings for
-/// uncut derivation.
-const MIDDLE: Shape = Shape {
-    columns: (1, 7),
-    produced: (1, 5),
-    tested: (0, 8),
-    lengths: (0, 4),
-    sets: (0, 6),
-    dependencies: (0, 6),
-};
-
 #[test]
 fn lists_of_lookups_on_built_tables() {
     for round in 0..rounds() {
         let mut random = Random::new(1000 * round + 7);
         let mut answers = [0; 4];
-        for (shape, count) in [(Shape::SMALL, 3000), (MIDDLE, 300)] {
+        for (shape, count) in [(Shape::SMALL, 3000), (Shape::MIDDLE, 300)] {
             for _ in 0..count {
                 let (query, table) = samples::query_with_table(&mut random, shape);
                 let lookups = samples::lookups(&mut random, &query, 40);

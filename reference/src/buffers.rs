@@ -1,10 +1,11 @@
-//! Lent buffers: when space is refused, and how scratch and output, or scratch
-//! and text, are after a build or a listing.
+//! Lent buffers: when space is refused, and how scratch, output and text are
+//! after a build, a listing or a trial of a table.
 
 use crate::listing::printed;
-use crate::refusal;
+use crate::table::Table;
+use crate::{refusal, verification};
 
-/// Bytes of scratch that a build or a listing takes.
+/// Bytes of scratch that a build, a listing or a trial of a table takes.
 pub const SCRATCH_BYTES: usize = 16_384;
 
 /// A build of a query whose table, or refusal 1 to 8, is known. Changes the
@@ -29,6 +30,14 @@ pub fn build(
 pub fn list(lines: &Result<String, u8>, scratch: &mut [u8], text: &mut [u8]) -> Result<usize, u8> {
     use_scratch(lines, scratch)?;
     write(printed(lines).as_bytes(), text)
+}
+
+/// A trial of a supplied table, for a query whose own table, or refusal 1 to 8,
+/// is known. Changes the scratch as the trial has to, and gives the refusal.
+pub fn verify(own: &Result<Table, u8>, supplied: &[u8], scratch: &mut [u8]) -> Result<(), u8> {
+    use_scratch(own, scratch)?;
+    let own = own.as_ref().map_err(|&refusal| refusal)?;
+    verification::compare(own, supplied)
 }
 
 /// The scratch of a query that is constructed, or refused as this says. Checks 1

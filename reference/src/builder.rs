@@ -2,12 +2,17 @@
 
 use crate::construction::Construction;
 use crate::query::Query;
-use crate::table;
+use crate::table::Table;
 
-/// The table of a query, or the refusal's number. Space never runs short, so 9
-/// never comes.
+/// The bytes of a query's table, or the refusal's number. Space never runs
+/// short, so 9 never comes.
 pub fn build_table(query: &[u8]) -> Result<Vec<u8>, u8> {
+    table_of(query).map(|table| table.write())
+}
+
+/// What a query's table says, or the refusal's number.
+pub fn table_of(query: &[u8]) -> Result<Table, u8> {
     let query = Query::read(query)?;
     let construction = Construction::of(&query)?;
-    Ok(table::write(&query, &construction))
+    Ok(Table::of(&query, &construction))
 }

@@ -1,6 +1,6 @@
 //! What trials and lists of lookups are put to: any implementation, and this one.
 
-use crate::builder::build_table;
+use crate::builder::{build_table, table_of};
 use crate::{buffers, listing, table};
 
 /// An implementation of order tables. Each function gives its value or the
@@ -10,6 +10,8 @@ pub trait Implementation {
     fn build(query: &[u8], scratch: &mut [u8], output: &mut [u8]) -> Result<usize, u8>;
     /// Lists a query into the text's first bytes: the length of what is printed.
     fn list(query: &[u8], scratch: &mut [u8], text: &mut [u8]) -> Result<usize, u8>;
+    /// Puts a table on trial for a query: nothing when it is accepted.
+    fn verify(query: &[u8], table: &[u8], scratch: &mut [u8]) -> Result<(), u8>;
     /// Enters by a produced order: the state.
     fn enter(table: &[u8], produced: u8) -> Result<u8, u8>;
     /// Takes a set in a state: the next state.
@@ -35,6 +37,10 @@ impl Implementation for Reference {
 
     fn list(query: &[u8], scratch: &mut [u8], text: &mut [u8]) -> Result<usize, u8> {
         buffers::list(&listing::lines(query), scratch, text)
+    }
+
+    fn verify(query: &[u8], table: &[u8], scratch: &mut [u8]) -> Result<(), u8> {
+        buffers::verify(&table_of(query), table, scratch)
     }
 
     fn enter(table: &[u8], produced: u8) -> Result<u8, u8> {

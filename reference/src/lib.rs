@@ -8,14 +8,14 @@
 //! The way from a query to an answer is: [`query`] reads the description,
 //! [`construction`] finds nodes and states with the steps of [`derivation`],
 //! [`table`] writes them down and looks them up. [`builder`] and [`mod@listing`]
-//! join these, and [`buffers`] puts what they give into lent buffers. [`model`]
-//! answers the same lookups without a table, uncut, and [`rows`] says what the
-//! answers mean for rows.
+//! join these, [`verification`] puts a supplier's table on trial, and [`buffers`]
+//! puts what they give into lent buffers. [`model`] answers the same lookups
+//! without a table, uncut, and [`rows`] says what the answers mean for rows.
 //!
 //! For comparisons, [`implementation`] says what an implementation does,
 //! [`mod@trials`] reads the folder trials/ and puts its trials to one, and
 //! [`mod@lookups`] does so with lists of lookups. [`random`] and [`samples`] make
-//! repeatable random inputs; [`program`] runs a listing program.
+//! repeatable random inputs; [`program`] runs a program.
 
 #![forbid(unsafe_code)]
 
@@ -36,6 +36,7 @@ pub mod rows;
 pub mod samples;
 pub mod table;
 pub mod trials;
+pub mod verification;
 
 pub use implementation::{Implementation, Reference};
 pub use listing::listing;

@@ -23,3 +23,8 @@ pub const SPACE: u8 = 9;
 pub const HANDLE: u8 = 10;
 /// A start or successor not below Q, or a held bit past P+T set.
 pub const ROW: u8 = 11;
+/// P, T or S in a table other than in the query.
+pub const MISMATCH: u8 = 12;
+/// An answer of a table, reached from a start through some run of sets, that is
+/// not the uncut derivation's.
+pub const ANSWER: u8 = 13;

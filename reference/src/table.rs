@@ -1,5 +1,5 @@
-//! The table's bytes: writing them, checking their form, and looking them up.
-//! Checks and lookups know the bytes and nothing of the query.
+//! The table's bytes: writing and reading them, checking their form, and looking
+//! them up. Checks and lookups know the bytes and nothing of the query.
 
 use crate::construction::Construction;
 use crate::query::Query;
@@ -10,39 +10,104 @@ const SIZES: usize = 4;
 /// Bytes of held bits per state.
 const HELD_BYTES: usize = 2;
 
-/// The bytes of the table of a query and its construction.
-pub fn write(query: &Query, construction: &Construction) -> Vec<u8> {
-    let mut bytes = vec![
-        construction.states.len() as u8,
-        query.produced.len() as u8,
-        query.tested.len() as u8,
-        query.sets,
-    ];
-    bytes.extend(construction.starts.iter().map(|&state| state as u8));
-    let successors = construction.successors.iter().flatten();
-    bytes.extend(successors.map(|&state| state as u8));
-    bytes.extend(construction.held.iter().flat_map(|bits| bits.to_le_bytes()));
-    bytes
+/// What a table says. It has as many produced orders as starts.
+#[derive(Clone, Debug, PartialEq, Eq)]
+pub struct Table {
+    /// T, the number of tested orders.
+    pub tested: u8,
+    /// S, the number of sets.
+    pub sets: u8,
+    /// Per produced order, the number of its start.
+    pub starts: Vec<u8>,
+    /// The states in number order.
+    pub states: Vec<State>,
+}
+
+/// What a table says of one state.
+#[derive(Clone, Debug, PartialEq, Eq)]
+pub struct State {
+    /// Per set, the number of the state that taking the set leads to.
+    pub successors: Vec<u8>,
+    /// Bit i for interesting order i.
+    pub held: u16,
+}
+
+impl Table {
+    /// The table of a query and its construction.
+    pub fn of(query: &Query, construction: &Construction) -> Self {
+        let numbers = |states: &[usize]| states.iter().map(|&state| state as u8).collect();
+        let rows = construction.successors.iter().zip(&construction.held);
+        Self {
+            tested: query.tested.len() as u8,
+            sets: query.sets,
+            starts: numbers(&construction.starts),
+            states: rows
+                .map(|(successors, &held)| State {
+                    successors: numbers(successors),
+                    held,
+                })
+                .collect(),
+        }
+    }
+
+    /// Reads a table's bytes, or gives the number of the first check that
+    /// refuses them: 1, 2, 1, then 11 when a start or successor is no state or a
+    /// held bit past P+T is set.
+    pub fn read(table: &[u8]) -> Result<Self, u8> {
+        let layout = Layout::read(table)?;
+        let states = (0..layout.states).map(|state| {
+            let held = &table[layout.held_at(state)..][..HELD_BYTES];
+            State {
+                successors: table[layout.row_at(state)..][..layout.sets].to_vec(),
+                held: u16::from_le_bytes([held[0], held[1]]),
+            }
+        });
+        let read = Self {
+            tested: layout.tested as u8,
+            sets: layout.sets as u8,
+            starts: table[layout.start_at(0)..][..layout.produced].to_vec(),
+            states: states.collect(),
+        };
+        let starts_and_successors = &table[layout.start_at(0)..layout.held_at(0)];
+        let states_exist = starts_and_successors
+            .iter()
+            .all(|&state| usize::from(state) < layout.states);
+        let mut held = read.states.iter().map(|state| u32::from(state.held));
+        let bits_exist = held.all(|bits| bits >> layout.interesting() == 0);
+        if states_exist && bits_exist {
+            Ok(read)
+        } else {
+            Err(refusal::ROW)
+        }
+    }
+
+    /// Writes the table's bytes. Nothing is checked, so that refused tables can
+    /// be made too.
+    pub fn write(&self) -> Vec<u8> {
+        let mut bytes = vec![
+            self.states.len() as u8,
+            self.starts.len() as u8,
+            self.tested,
+            self.sets,
+        ];
+        bytes.extend(&self.starts);
+        bytes.extend(self.states.iter().flat_map(|state| &state.successors));
+        let held = self.states.iter().map(|state| state.held);
+        bytes.extend(held.flat_map(u16::to_le_bytes));
+        bytes
+    }
+
+    /// The number of interesting orders, P+T.
+    pub fn interesting(&self) -> usize {
+        self.starts.len() + usize::from(self.tested)
+    }
 }
 
 /// Checks a table's form: its length, its sizes, and that every start and
 /// successor is a state and no held bit past P+T is set. Refuses with 1, 2 or
 /// 11.
 pub fn check(table: &[u8]) -> Result<(), u8> {
-    let layout = Layout::read(table)?;
-    let (starts_and_successors, held) = table[SIZES..].split_at(layout.held_at(0) - SIZES);
-    let states_exist = starts_and_successors
-        .iter()
-        .all(|&state| usize::from(state) < layout.states);
-    let bits_exist = held
-        .chunks_exact(HELD_BYTES)
-        .map(|bytes| u32::from(u16::from_le_bytes([bytes[0], bytes[1]])))
-        .all(|bits| bits >> layout.interesting() == 0);
-    if states_exist && bits_exist {
-        Ok(())
-    } else {
-        Err(refusal::ROW)
-    }
+    Table::read(table).map(|_| ())
 }
 
 /// The start state of a produced order. Refuses with 1, 2, 10 or 11.

@@ -37,10 +37,15 @@ pub struct Trial {
     pub scratch: Option<(usize, u8)>,
     /// The listing's first line, if 7 and 8 were never given.
     pub without_limits: Option<String>,
+    /// A supplier's table; empty when the trial has none.
+    pub supplied: Vec<u8>,
+    /// What verifying that table gives: nothing when it is accepted, or the
+    /// refusal.
+    pub verified: Option<Result<(), u8>>,
 }
 
 impl Trial {
-    /// Reads a trial's text, or says which line can't be read.
+    /// Reads a trial's text, or says what of it can't be read.
     pub fn read(name: &str, text: &str) -> Result<Self, String> {
         let mut trial = Self {
             name: name.to_owned(),
@@ -54,7 +59,11 @@ impl Trial {
             };
             read.ok_or_else(|| format!("can't read the line `{line}`"))?;
         }
-        Ok(trial)
+        if trial.supplied.is_empty() == trial.verified.is_none() {
+            Ok(trial)
+        } else {
+            Err("a supplied table and what verifying it gives go together".to_owned())
+        }
     }
 
     /// Takes in what a line says has to come out.
@@ -72,6 +81,13 @@ impl Trial {
             self.scratch = Some((length.parse().ok()?, refusal.parse().ok()?));
         } else if let Some(counts) = expected.strip_prefix("without limits ") {
             self.without_limits = Some(counts.to_owned());
+        } else if let Some(bytes) = expected.strip_prefix("supplied ") {
+            self.supplied.extend(numbers(bytes)?);
+        } else if let Some(verified) = expected.strip_prefix("verified ") {
+            self.verified = Some(match verified.strip_prefix("refused ") {
+                Some(refusal) => Err(refusal.parse().ok()?),
+                None => (verified == "accepted").then_some(Ok(()))?,
+            });
         } else if LISTING_WORDS.contains(&expected.split(' ').next()?) {
             self.lines.push(expected.to_owned());
         } else {
@@ -149,12 +165,17 @@ impl Trial {
             let as_said = states[0].is_ok() && states[0] == states[1];
             ensure(as_said, || format!("after {produced} {lists:?} {states:?}"))?;
         }
+        if let Some(expected) = self.verified {
+            let verified = self.verify::<I>(SCRATCH_BYTES);
+            ensure(verified == expected, || format!("verified {verified:?}"))?;
+        }
         if let Some((length, refusal)) = self.scratch {
             let built = self.built::<I>(length).map(|_| ());
             let listed = self.listed::<I>(length).map(|_| ());
-            let as_said = [built, listed] == [Err(refusal); 2];
+            let verified = self.verify::<I>(length);
+            let as_said = [built, listed, verified] == [Err(refusal); 3];
             ensure(as_said, || {
-                format!("scratch {length}: {built:?} {listed:?}")
+                format!("scratch {length}: {built:?} {listed:?} {verified:?}")
             })?;
         }
         Ok(())
@@ -166,6 +187,11 @@ impl Trial {
         let length = I::build(&self.query, &mut vec![0; scratch], &mut output)?;
         output.truncate(length);
         Ok(output)
+    }
+
+    /// What verifying the supplied table gives with so much scratch.
+    fn verify<I: Implementation>(&self, scratch: usize) -> Result<(), u8> {
+        I::verify(&self.query, &self.supplied, &mut vec![0; scratch])
     }
 
     /// What an implementation lists with so much scratch.

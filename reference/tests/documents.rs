@@ -3,10 +3,17 @@
 
 use std::fs;
 
+use reference::buffers::SCRATCH_BYTES;
 use reference::trials::{self, repository, Trial};
+use reference::{table, verification, Implementation, Reference};
+
+/// The bytes of a file of the repository.
+fn file(path: &str) -> Vec<u8> {
+    fs::read(repository().join(path)).unwrap_or_else(|error| panic!("{path}: {error}"))
+}
 
 fn document(path: &str) -> String {
-    fs::read_to_string(repository().join(path)).unwrap_or_else(|error| panic!("{path}: {error}"))
+    String::from_utf8(file(path)).unwrap_or_else(|error| panic!("{path}: {error}"))
 }
 
 /// What a document has under a heading.
@@ -68,8 +75,7 @@ fn nodes_and_states(trial: &Trial) -> [&str; 2] {
 #[test]
 fn the_examples_have_the_query() {
     let query = trials::example().query;
-    let file = fs::read(repository().join("examples/first.query"));
-    assert_eq!(file.expect("the file is there"), query);
+    assert_eq!(file("examples/first.query"), query);
 
     let plan = document("examples/plan.c");
     let begin = format!("query[{}] = {{\n", query.len());
@@ -80,6 +86,54 @@ fn the_examples_have_the_query() {
     let bytes = bytes.filter(|byte| !byte.is_empty());
     let bytes: Vec<u8> = bytes.map(|byte| byte.parse().expect("a byte")).collect();
     assert_eq!(bytes, query);
+}
+
+/// What verifying a table's file for a query's file gives.
+fn verified(query: &str, table: &str) -> Result<(), u8> {
+    Reference::verify(&file(query), &file(table), &mut [0; SCRATCH_BYTES])
+}
+
+#[test]
+fn the_example_tables_are_what_is_said_of_them() {
+    let query = "examples/first.query";
+    let [first, renumbered, damaged] =
+        ["first", "renumbered", "damaged"].map(|name| format!("examples/{name}.table"));
+    assert_eq!(file(&first), trials::example().table);
+    assert_eq!(verified(query, &first), Ok(()));
+
+    let supplied = trials::named("supplied_renumbered").supplied;
+    assert_eq!(file(&renumbered), supplied);
+    assert_ne!(file(&renumbered), file(&first));
+    assert_eq!(verified(query, &renumbered), Ok(()));
+
+    // State 0, in which a scan in (a) is, holds (a,b), order 2, besides.
+    let mut changed = file(&first);
+    changed[16] |= 1 << 2;
+    assert_eq!(file(&damaged), changed);
+    assert_ne!(file(&damaged), file(&first));
+    assert_eq!(table::check(&file(&damaged)), Ok(()));
+    assert_eq!(verified(query, &damaged), Err(13));
+}
+
+#[test]
+fn the_readme_shows_how_the_example_tables_come_out() {
+    let readme = document("README.md");
+    let shown = section(&readme, "A supplier's table on trial");
+    let (_, shown) = shown.split_once("\n```\n").expect("the block begins");
+    let (shown, _) = shown.split_once("\n```\n").expect("the block ends");
+    let mut lines = shown.lines();
+    let mut outcomes = Vec::new();
+    while let Some(command) = lines.next() {
+        match command.split(' ').collect::<Vec<_>>()[..] {
+            ["$", "target/bin/order_verify", query, table] => {
+                let outcome = verification::printed(verified(query, table));
+                assert_eq!(lines.next(), outcome.lines().next(), "{command}");
+                outcomes.push(outcome);
+            }
+            _ => panic!("no command: {command}"),
+        }
+    }
+    assert_eq!(outcomes, ["accepted\n", "accepted\n", "refused 13\n"]);
 }
 
 #[test]
@@ -111,6 +165,8 @@ fn the_format_has_the_query_and_the_table() {
     let format = document("docs/FORMAT.md");
     assert_eq!(quoted_bytes(section(&format, "Query")), example.query);
     assert_eq!(quoted_bytes(section(&format, "Table")), example.table);
+    let supplied = quoted_bytes(section(&format, "A supplier's table"));
+    assert_eq!(supplied, trials::named("supplied_renumbered").supplied);
 }
 
 #[test]
@@ -119,7 +175,7 @@ fn the_proved_trials_have_the_queries_and_the_table() {
     let lists = lists(&document("crates/trials/specs/Trials.antt"));
     assert!(lists.len() > 10, "only {} lists", lists.len());
     for list in lists {
-        let known = |trial: &Trial| [&trial.query, &trial.table].contains(&&list);
+        let known = |trial: &Trial| [&trial.query, &trial.table, &trial.supplied].contains(&&list);
         assert!(trials.iter().any(known), "{list:?}");
     }
 }
@@ -127,10 +183,15 @@ fn the_proved_trials_have_the_queries_and_the_table() {
 #[test]
 fn the_benchmarks_have_the_counts() {
     let benchmarks = document("docs/BENCHMARKS.md");
-    for row in rows(section(&benchmarks, "Builds, µs")) {
+    let builds: Vec<_> = rows(section(&benchmarks, "Builds, µs")).collect();
+    for row in &builds {
         let trial = trials::named(row[0]);
         assert_eq!(row[1..3], nodes_and_states(&trial), "{row:?}");
     }
+    let verified = section(&benchmarks, "Trials of a supplier's table, µs");
+    let verified: Vec<_> = rows(verified).map(|row| row[..2].to_vec()).collect();
+    let names_and_states = builds.iter().map(|row| vec![row[0], row[2]]);
+    assert_eq!(verified, names_and_states.collect::<Vec<_>>());
     let trial = trials::named("tpcr_query_8");
     let [nodes, states] = nodes_and_states(&trial);
     let length = trial.table_length.expect("the length is said").to_string();

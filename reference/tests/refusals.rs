@@ -1,5 +1,5 @@
-//! The refusals of a query, of a build and of a listing, and the buffers
-//! afterwards.
+//! The refusals of a query, of a build, of a listing and of a supplied table, and
+//! the buffers afterwards.
 
 use std::sync::LazyLock;
 
@@ -330,17 +330,14 @@ fn twins_are_refused_after_all_items() {
     }
 }
 
-/// A build or a listing.
-type Call = fn(&[u8], &mut [u8], &mut [u8]) -> Result<usize, u8>;
-
-/// Builds or lists a query that comes out so when there is room, with a scratch
-/// and an output of these lengths, full of marks. Checks the bytes of both
-/// afterwards against the outcome.
+/// Calls what writes so much of a query when there is room, with a scratch and an
+/// output of these lengths, full of marks. Checks the bytes of both afterwards
+/// against the outcome.
 fn lend(
     query: &[u8],
     scratch: usize,
     output: usize,
-    call: Call,
+    call: impl Fn(&[u8], &mut [u8], &mut [u8]) -> Result<usize, u8>,
     whole: &[u8],
 ) -> Result<usize, u8> {
     let marks = |length: usize| (0..length).map(|at| (at % 251) as u8 + 1).collect();
@@ -370,6 +367,14 @@ fn build_with(query: &[u8], scratch: usize, output: usize) -> Result<usize, u8> 
 fn list_with(query: &[u8], scratch: usize, text: usize) -> Result<usize, u8> {
     let listing = listing(query);
     lend(query, scratch, text, Reference::list, listing.as_bytes())
+}
+
+/// Verifies a table for a query. It writes no output.
+fn verify_with(query: &[u8], table: &[u8], scratch: usize) -> Result<(), u8> {
+    let verify = |query: &[u8], scratch: &mut [u8], _: &mut [u8]| {
+        Reference::verify(query, table, scratch).map(|()| 0)
+    };
+    lend(query, scratch, 0, verify, &[]).map(|_| ())
 }
 
 /// More than 256 nodes, and more than 128 states when nodes are not counted.
@@ -476,6 +481,87 @@ fn a_query_refused_on_reading_leaves_the_scratch_and_is_printed_when_there_is_ro
             }
         }
     }
+}
+
+/// Tables for the example, each with what verifying it gives: one for each
+/// refusal, and the example's own.
+fn tables_of_every_outcome() -> Vec<(Vec<u8>, Result<(), u8>)> {
+    let own = trials::example().table;
+    let with = |place: usize, byte: u8| {
+        let mut table = own.clone();
+        table[place] = byte;
+        table
+    };
+    vec![
+        (own[..3].to_vec(), Err(1)),
+        (with(0, 129), Err(2)),
+        (own[..25].to_vec(), Err(1)),
+        (with(6, 5), Err(11)),
+        (trials::named("supplied_sizes_differ").supplied, Err(12)),
+        (with(16, 3), Err(13)),
+        (own, Ok(())),
+    ]
+}
+
+#[test]
+fn a_query_refused_on_reading_is_refused_before_scratch_and_table() {
+    for (query, number) in refused_on_reading() {
+        for (table, _) in tables_of_every_outcome() {
+            for scratch in [SHORT_SCRATCH, LONG_SCRATCH].concat() {
+                assert_eq!(verify_with(&query, &table, scratch), Err(number));
+            }
+        }
+    }
+}
+
+#[test]
+fn short_scratch_is_refused_before_the_construction_and_the_table() {
+    for query in [EXAMPLE.clone(), too_many_nodes(), too_many_states()] {
+        for (table, _) in tables_of_every_outcome() {
+            for scratch in SHORT_SCRATCH {
+                assert_eq!(verify_with(&query, &table, scratch), Err(9));
+            }
+        }
+    }
+}
+
+#[test]
+fn nodes_and_states_are_refused_before_the_table() {
+    for (query, number) in [(too_many_nodes(), 7), (too_many_states(), 8)] {
+        for (table, _) in tables_of_every_outcome() {
+            for scratch in LONG_SCRATCH {
+                assert_eq!(verify_with(&query, &table, scratch), Err(number));
+            }
+        }
+    }
+}
+
+#[test]
+fn a_table_is_refused_for_its_form_then_its_sizes_then_its_answers() {
+    for (table, verified) in tables_of_every_outcome() {
+        for scratch in LONG_SCRATCH {
+            assert_eq!(verify_with(&EXAMPLE, &table, scratch), verified);
+        }
+    }
+    // One produced order, tested order or set more or fewer, each in a table of
+    // the right total.
+    for sizes in [
+        [1, 1, 2, 2],
+        [1, 3, 2, 2],
+        [1, 2, 1, 2],
+        [1, 2, 3, 2],
+        [1, 2, 2, 1],
+        [1, 2, 2, 3],
+    ] {
+        let [states, produced, _, sets] = sizes.map(usize::from);
+        let zeros = vec![0; produced + states * sets + 2 * states];
+        let mut table = [&sizes[..], &zeros].concat();
+        assert_eq!(verify_with(&EXAMPLE, &table, SCRATCH_BYTES), Err(12));
+        table[4] = 1;
+        assert_eq!(verify_with(&EXAMPLE, &table, SCRATCH_BYTES), Err(11));
+    }
+    let no_answer = [1, 2, 2, 2, 0, 0, 0, 0, 0, 0];
+    assert_eq!(verify_with(&EXAMPLE, &no_answer, SCRATCH_BYTES), Err(13));
 }
 
 #[test]

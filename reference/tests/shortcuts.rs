@@ -1,10 +1,15 @@
 //! The shortcuts that lose orders or invent them are not taken. Each query
-//! here comes out otherwise in a construction that takes the shortcut.
+//! here comes out otherwise in a construction that takes the shortcut. Two trials
+//! have the table of such a construction.
+
+use std::collections::BTreeSet;
 
 use reference::builder::build_table;
 use reference::construction::Construction;
+use reference::derivation::{start, steps, Ordering};
 use reference::lookups::{model_answers, table_answers, Answer, Lookup};
 use reference::rows::{obey, stand_in};
+use reference::table::Table;
 use reference::{trials, Dependency, Query, Reference};
 
 /// Whether an interesting order is held after entering by produced order 0 and
@@ -30,6 +35,64 @@ fn derivation_goes_on_where_no_interesting_order_begins_so() {
     let (a, b) = (0, 1);
     assert!(query.interesting().all(|order| !order.starts_with(&[a, b])));
     assert!(construction.nodes.contains(&vec![a, b]));
+}
+
+/// The rows of a construction that goes on only from orderings that an
+/// interesting order begins with: of each state its successors, and whether the
+/// last interesting order is held. The query has one produced order.
+fn rows_by_the_prefix_test(query: &Query) -> Vec<(Vec<usize>, bool)> {
+    let begun = |ordering: &Ordering| {
+        let mut interesting = query.interesting();
+        interesting.any(|order| order.starts_with(ordering))
+    };
+    let take = |state: &BTreeSet<Ordering>, set: u8| {
+        let mut taken = state.clone();
+        let mut waiting: Vec<Ordering> = state.iter().cloned().collect();
+        while let Some(ordering) = waiting.pop() {
+            let results = steps(&ordering, query.dependencies_of(set));
+            for result in results.into_iter().filter(begun) {
+                if taken.insert(result.clone()) {
+                    waiting.push(result);
+                }
+            }
+        }
+        taken
+    };
+    let last = query.interesting().last().expect("an interesting order");
+    let mut states: Vec<BTreeSet<Ordering>> = vec![start(&query.produced[0]).into_iter().collect()];
+    let mut rows = Vec::new();
+    while let Some(state) = states.get(rows.len()).cloned() {
+        let successors = (0..query.sets).map(|set| {
+            let next = take(&state, set);
+            let number = states.iter().position(|other| *other == next);
+            number.unwrap_or_else(|| {
+                states.push(next);
+                states.len() - 1
+            })
+        });
+        rows.push((successors.collect(), state.contains(last)));
+    }
+    rows
+}
+
+#[test]
+fn a_supplied_table_is_that_of_the_prefix_test() {
+    let trial = trials::named("supplied_prefix_test");
+    let query = Query::read(&trial.query).expect("the trial's query is read");
+    let table = Table::read(&trial.supplied).expect("the trial's table has the form");
+    let supplied = table.states.iter().map(|state| {
+        let successors = state.successors.iter().copied().map(usize::from);
+        (successors.collect(), state.held == 3)
+    });
+    let supplied: Vec<(Vec<usize>, bool)> = supplied.collect();
+    assert_eq!(rows_by_the_prefix_test(&query), supplied);
+}
+
+#[test]
+fn a_supplied_table_has_a_pair_of_fixes_as_an_equal() {
+    let supplied = trials::named("supplied_pair_of_fixes").supplied;
+    let equal = trials::named("equal").query;
+    assert_eq!(build_table(&equal), Ok(supplied));
 }
 
 #[test]

@@ -4,7 +4,9 @@ use std::ops::Range;
 use std::sync::LazyLock;
 
 use reference::builder::build_table;
-use reference::table::{ask, check, enter, row, take};
+use reference::random::Random;
+use reference::samples;
+use reference::table::{ask, check, enter, row, take, Table};
 use reference::{trials, Dependency, Implementation, Query, Reference};
 
 /// The example's table, and places in it.
@@ -68,6 +70,31 @@ fn a_row_is_that_part_of_the_lent_table() {
         let place = 6 + 2 * usize::from(state);
         assert!(std::ptr::eq(row, &EXAMPLE[place..place + 2]));
     }
+}
+
+#[test]
+fn what_is_read_of_a_table_is_what_lookups_give_and_is_written_back() {
+    let mut random = Random::new(51);
+    let mut read = 0;
+    for _ in 0..1000 {
+        let bytes = samples::any_table(&mut random);
+        let Ok(table) = Table::read(&bytes) else {
+            continue;
+        };
+        read += 1;
+        assert_eq!(table.write(), bytes);
+        for (produced, &start) in (0..).zip(&table.starts) {
+            assert_eq!(enter(&bytes, produced), Ok(start));
+        }
+        for (number, state) in (0..).zip(&table.states) {
+            assert_eq!(row(&bytes, number), Ok(&state.successors[..]));
+            for order in 0..table.interesting() {
+                let held = state.held >> order & 1 == 1;
+                assert_eq!(ask(&bytes, number, order as u8), Ok(held));
+            }
+        }
+    }
+    assert!(read > 300, "only {read} tables are read");
 }
 
 #[test]

@@ -8,7 +8,7 @@ use reference::trials::{self, Trial};
 use reference::{Dependency, Query, Reference};
 
 /// How many trials there are at least.
-const TRIALS: usize = 27;
+const TRIALS: usize = 34;
 
 #[test]
 fn every_trial() {
@@ -69,6 +69,10 @@ fn what_comes_out_otherwise_than_a_trial_says_is_seen() {
         "= after 0: held 0\n= after 0: 0 0 held 0",
         "= after 0: same as 0",
         "= scratch 16383 refused 9",
+        "= supplied 2 1 0 1 0\n= supplied 1 0 1 0 1 0\n= verified accepted",
+        "= supplied 1 1 0 1 0 0 0 0\n= verified refused 13",
+        "= supplied 1 1 0 0 0 1 0\n= verified refused 12",
+        "= supplied 1 1 0 1\n= verified refused 1",
     ] {
         assert_eq!(check(said), Ok(()), "{said}");
     }
@@ -84,6 +88,9 @@ fn what_comes_out_otherwise_than_a_trial_says_is_seen() {
         "= after 0: 1 same as 1",
         "= scratch 16384 refused 9",
         "= scratch 16383 refused 8",
+        "= supplied 1 1 0 1 0 0 1 0\n= verified refused 13",
+        "= supplied 1 1 0 1 0 0 0 0\n= verified accepted",
+        "= supplied 1 1 0 1 0 0 0 0\n= verified refused 12",
     ] {
         assert!(check(said).is_err(), "{said}");
     }
@@ -99,6 +106,11 @@ fn lines_that_cannot_be_read_are_refused() {
         "= after 0 1 held 1",
         "= after 0: 1 helt 1",
         "= scratch 16383",
+        "= supplied 1 1 0 256\n= verified accepted",
+        "= supplied 1 1 0 1\n= verified refused",
+        "= supplied 1 1 0 1\n= verified granted",
+        "= supplied 1 1 0 1",
+        "= verified accepted",
     ] {
         assert!(Trial::read("", text).is_err(), "{text}");
     }

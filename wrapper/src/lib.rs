@@ -1,6 +1,7 @@
-//! Order tables for a planner in Rust: build the table of a query, look it up,
-//! list it. All of it is done by the proved library; here its numbers become
-//! types, so that a set can't be passed as a state.
+//! Order tables for a planner in Rust: build the table of a query or put a
+//! supplier's on trial, look it up, list it. All of it is done by the proved
+//! library; here its numbers become types, so that a set can't be passed as a
+//! state.
 //!
 //! ```no_run
 //! # fn plan(query: &[u8]) -> Result<bool, order_tables::Refusal> {
@@ -21,7 +22,8 @@ mod refusal;
 pub use refusal::Refusal;
 use refusal::{granted, value};
 
-/// Bytes of scratch that a build or a listing takes.
+/// Bytes of scratch that a build, a listing or a trial of a supplier's table
+/// takes.
 pub const SCRATCH_BYTES: usize = 16_384;
 /// Bytes of the longest query: five sizes, and 32 items of one head and four
 /// bytes.
@@ -53,6 +55,21 @@ pub struct StateNumber(pub u8);
 /// others keep theirs.
 pub fn build(query: &[u8], scratch: &mut [u8], output: &mut [u8]) -> Result<usize, Refusal> {
     value(raw::table_build(query, scratch, output)).map(usize::from)
+}
+
+/// Puts a supplier's table on trial for a query. Where nothing is refused before
+/// [`Refusal::Answer`], a table is accepted exactly when, from every start and
+/// through every run of sets, its answer for each interesting order is the one
+/// that the derivation rules give, uncut. State numbers may differ from those that
+/// [`build`] gives, two rows may behave alike, and rows that no start reaches may
+/// hold anything that the form allows.
+///
+/// Refuses as [`build`] refuses the query, with [`Refusal::Space`] for scratch
+/// alone; then as [`Table::check`] refuses the table; then with
+/// [`Refusal::Mismatch`], and last with [`Refusal::Answer`]. The scratch is
+/// afterwards as [`build`] leaves it.
+pub fn verify(query: &[u8], table: Table, scratch: &mut [u8]) -> Result<(), Refusal> {
+    granted(raw::table_verify(query, table.bytes, scratch))
 }
 
 /// Writes the listing of a query, or the line that says how it is refused with 1

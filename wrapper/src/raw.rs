@@ -17,6 +17,14 @@ extern "C" {
         output_length: usize,
     ) -> u32;
     fn order_table_check(table: *const u8, length: usize) -> u32;
+    fn order_table_verify(
+        query: *const u8,
+        query_length: usize,
+        table: *const u8,
+        table_length: usize,
+        scratch: *mut u8,
+        scratch_length: usize,
+    ) -> u32;
     fn order_table_enter(table: *const u8, length: usize, produced: u8) -> u32;
     fn order_table_take(table: *const u8, length: usize, state: u8, set: u8) -> u32;
     fn order_table_ask(table: *const u8, length: usize, state: u8, order: u8) -> u32;
@@ -79,6 +87,20 @@ pub fn table_build(query: &[u8], scratch: &mut [u8], output: &mut [u8]) -> u32 {
 /// The table check: the refusal.
 pub fn table_check(table: &[u8]) -> u32 {
     unsafe { order_table_check(table.as_ptr(), table.len()) }
+}
+
+/// The trial of a table for a query: the refusal.
+pub fn table_verify(query: &[u8], table: &[u8], scratch: &mut [u8]) -> u32 {
+    unsafe {
+        order_table_verify(
+            query.as_ptr(),
+            query.len(),
+            table.as_ptr(),
+            table.len(),
+            scratch.as_mut_ptr(),
+            scratch.len(),
+        )
+    }
 }
 
 /// Entering by a produced order: the state.

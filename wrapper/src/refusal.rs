@@ -28,24 +28,31 @@ pub enum Refusal {
     Handle,
     /// A start or successor not below Q, or a held bit past P+T.
     Row,
+    /// A table with another P, T or S than the query.
+    Mismatch,
+    /// A table whose answer, from some start and through some run of sets, is
+    /// wrong for the query.
+    Answer,
 }
 
-/// All refusals, in the order of their numbers.
-const REFUSALS: [Refusal; 11] = [
-    Refusal::Length,
-    Refusal::Size,
-    Refusal::Item,
-    Refusal::Column,
-    Refusal::Repeat,
-    Refusal::Twin,
-    Refusal::Orderings,
-    Refusal::States,
-    Refusal::Space,
-    Refusal::Handle,
-    Refusal::Row,
-];
-
 impl Refusal {
+    /// All refusals, in the order of their numbers.
+    pub const ALL: [Self; 13] = [
+        Self::Length,
+        Self::Size,
+        Self::Item,
+        Self::Column,
+        Self::Repeat,
+        Self::Twin,
+        Self::Orderings,
+        Self::States,
+        Self::Space,
+        Self::Handle,
+        Self::Row,
+        Self::Mismatch,
+        Self::Answer,
+    ];
+
     /// The refusal's number.
     pub fn number(self) -> u8 {
         self as u8
@@ -64,7 +71,7 @@ impl std::error::Error for Refusal {}
 pub(crate) fn value(result: u32) -> Result<u16, Refusal> {
     match result >> 16 {
         0 => Ok(result as u16),
-        number => Err(REFUSALS[number as usize - 1]),
+        number => Err(Refusal::ALL[number as usize - 1]),
     }
 }
 

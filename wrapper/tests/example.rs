@@ -1,6 +1,7 @@
-//! The types on the listing's example, and on trials that are refused.
+//! The types on the listing's example, and on trials that are refused or have a
+//! supplier's table.
 
-use order_tables::{build, list, OrderHandle, Refusal, SetHandle, StateNumber, Table};
+use order_tables::{build, list, verify, OrderHandle, Refusal, SetHandle, StateNumber, Table};
 use order_tables::{LISTING_BYTES, LONGEST_TABLE, SCRATCH_BYTES};
 use reference::trials;
 
@@ -31,6 +32,37 @@ fn builds_and_looks_up() {
     }
     let row = table.row(StateNumber(2));
     assert_eq!(row, Ok(&bytes[10..12]));
+}
+
+#[test]
+fn verifies() {
+    let mut tried = [0; 3];
+    for trial in trials::all() {
+        let Some(verified) = trial.verified else {
+            continue;
+        };
+        let table = Table::new(&trial.supplied);
+        let given = verify(&trial.query, table, &mut [0; SCRATCH_BYTES]);
+        assert_eq!(given.map_err(Refusal::number), verified, "{}", trial.name);
+        match given {
+            Ok(()) => tried[0] += 1,
+            Err(Refusal::Mismatch) => tried[1] += 1,
+            Err(refusal) => {
+                assert_eq!(refusal, Refusal::Answer, "{}", trial.name);
+                tried[2] += 1;
+            }
+        }
+    }
+    assert!(tried.iter().all(|&trials| trials > 0), "{tried:?}");
+
+    let example = trials::example();
+    let verify_in = |query, table, scratch: usize| {
+        verify(query, Table::new(table), &mut vec![0; scratch]).map_err(Refusal::number)
+    };
+    assert_eq!(verify_in(&example.query, &example.table, 16_384), Ok(()));
+    assert_eq!(verify_in(&example.query, &example.table, 16_383), Err(9));
+    assert_eq!(verify_in(&example.query, &[], 16_384), Err(1));
+    assert_eq!(verify_in(&[], &example.table, 0), Err(1));
 }
 
 #[test]

@@ -1,5 +1,7 @@
 //! The wrapper declares the functions that the header declares, with the same
-//! parameters and results.
+//! parameters and results, and has its refusals and sizes.
+
+use order_tables::{Refusal, LISTING_BYTES, LONGEST_QUERY, LONGEST_TABLE, SCRATCH_BYTES};
 
 const HEADER: &str = include_str!("../../include/order_tables.h");
 const RAW: &str = include_str!("../src/raw.rs");
@@ -66,4 +68,44 @@ fn the_header_and_the_wrapper_declare_the_same() {
     rust.sort();
     assert!(c.len() > 10, "only {} functions", c.len());
     assert_eq!(c, rust);
+}
+
+/// The names and numbers of an enumeration of the header, in their sequence. The
+/// names are without what they all begin with.
+fn enumerated(name: &str) -> Vec<(String, usize)> {
+    let begin = format!("enum {name} {{\n");
+    let (_, lines) = HEADER.split_once(&begin).expect("the enumeration begins");
+    let (lines, _) = lines.split_once("};").expect("the enumeration ends");
+    let lines = lines.lines().filter_map(|line| line.split("/*").next());
+    let enumerators = lines.map(|line| line.trim().trim_end_matches(','));
+    enumerators
+        .map(|enumerator| {
+            let (name, number) = enumerator.split_once(" = ").expect("a name and a number");
+            let name = name.strip_prefix("ORDER_TABLE_").expect("a name");
+            (name.to_owned(), number.parse().expect("a number"))
+        })
+        .collect()
+}
+
+#[test]
+fn the_header_and_the_wrapper_have_the_same_refusals() {
+    let refusals = Refusal::ALL.map(|refusal| {
+        let word = format!("{refusal:?}").to_uppercase();
+        (word, usize::from(refusal.number()))
+    });
+    let granted = [("GRANTED".to_owned(), 0)];
+    let expected = [&granted[..], &refusals].concat();
+    assert_eq!(enumerated("order_table_refusals"), expected);
+}
+
+#[test]
+fn the_header_and_the_wrapper_have_the_same_sizes() {
+    let expected = [
+        ("SCRATCH", SCRATCH_BYTES),
+        ("LONGEST_QUERY", LONGEST_QUERY),
+        ("LONGEST_TABLE", LONGEST_TABLE),
+        ("LISTING", LISTING_BYTES),
+    ];
+    let expected = expected.map(|(name, size)| (name.to_owned(), size));
+    assert_eq!(enumerated("order_table_sizes"), expected);
 }

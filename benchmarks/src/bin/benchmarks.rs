@@ -1,6 +1,7 @@
 //! Prints, as Markdown: nanoseconds per enter, take and ask beside hand-written
-//! C, per ask beside a reduction, the times of builds beside the second
-//! implementation, and the figures of document 000, section 6.2.
+//! C, per ask beside a reduction, the times of builds and of trials of a
+//! supplier's table beside the second implementation, and the figures of document
+//! 000, section 6.2.
 
 use std::hint::black_box;
 
@@ -11,12 +12,15 @@ use benchmarks::timing::{take_turns, Builds};
 use order_tables::raw as proved;
 use reference::construction::Construction;
 use reference::random::Random;
+use reference::samples::renumbered;
+use reference::table::Table;
 use reference::{trials, Implementation, Query, Reference};
 
 /// How often two ways to look up take turns: long enough that other work of the
 /// machine passes.
 const TURNS: usize = 5000;
-/// How often two builds take turns, and how often the slowest ones do.
+/// How often builds and trials of a table take turns, and how often those of the
+/// slowest build do.
 const BUILD_TURNS: usize = 500;
 const SLOW_BUILD_TURNS: usize = 20;
 /// Lookups per turn.
@@ -32,7 +36,8 @@ const REDUCED: [&str; 5] = [
     "reduction_not_confluent",
     "set_not_remembered",
 ];
-/// The queries that are built, from the smallest to the slowest.
+/// The queries that are built, and whose tables are put on trial, from the
+/// smallest to the slowest.
 const BUILT: [&str; 6] = [
     "constant",
     "listing_example",
@@ -49,6 +54,7 @@ fn main() {
     lookups();
     reduction();
     builds();
+    supplied_tables();
     section_6_2();
 }
 
@@ -198,11 +204,7 @@ fn builds() {
         let bytes = trials::named(name).query;
         let query = Query::read(&bytes).expect("the trial's query is read");
         let construction = Construction::of(&query).expect("the trial's query has a table");
-        let turns = match name {
-            "slowest_build" => SLOW_BUILD_TURNS,
-            _ => BUILD_TURNS,
-        };
-        let [proved, second] = Builds::new().both_times(turns, &bytes);
+        let [proved, second] = Builds::new().both_times(turns(name), &bytes);
         rows.push([
             name.to_owned(),
             construction.nodes.len().to_string(),
@@ -214,6 +216,56 @@ fn builds() {
     }
     let head = ["Trial", "Nodes", "States", "Proved", "Second", "Ratio"];
     report::table(head, &rows);
+}
+
+/// How often builds of this trial take turns.
+fn turns(name: &str) -> usize {
+    match name {
+        "slowest_build" => SLOW_BUILD_TURNS,
+        _ => BUILD_TURNS,
+    }
+}
+
+/// Trials of a supplier's table by the proved library beside those of the second
+/// implementation, and beside the proved library's builds. The table is the
+/// query's own with other state numbers.
+fn supplied_tables() {
+    println!("## Trials of a supplier's table, µs");
+    println!();
+    println!("The table is the query's own with other state numbers.");
+    println!();
+    let mut random = Random::new(3);
+    let mut rows = Vec::new();
+    for name in BUILT {
+        let query = trials::named(name).query;
+        let own = Table::read(&built(&query)).expect("a built table has the form");
+        let supplied = std::iter::repeat_with(|| renumbered(&mut random, &own))
+            .find(|supplied| *supplied != own)
+            .expect("the table has two states");
+        let [proved, second, build] =
+            Builds::new().trial_times(turns(name), &query, &supplied.write());
+        rows.push([
+            name.to_owned(),
+            own.states.len().to_string(),
+            number(proved / 1000.0),
+            number(second / 1000.0),
+            number(proved / second),
+            number(build / 1000.0),
+            number(proved / build),
+        ]);
+    }
+    report::table(
+        [
+            "Trial",
+            "States",
+            "Proved",
+            "Second",
+            "Ratio",
+            "Proved build",
+            "Ratio to the build",
+        ],
+        &rows,
+    );
 }
 
 /// The figures of document 000 for query 8 of TPC-R, beside those of the query

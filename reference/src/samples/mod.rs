@@ -1,11 +1,12 @@
 //! Samples to try implementations on: random queries, tables, lists of lookups
 //! and rows, bytes that are close to a query or a table and bytes that are far
-//! from it, and queries at the limits.
+//! from it, queries at the limits, and tables that a supplier may send.
 
 mod bytes;
 mod lookups;
 mod queries;
 mod rows;
+mod supplied;
 mod tables;
 
 pub use bytes::{
@@ -13,9 +14,10 @@ pub use bytes::{
 };
 pub use lookups::lookups;
 pub use queries::{
-    any_query, constants_among_produced, dependency, nearly_query, own_column_per_set, query,
-    query_of_many_states, query_of_sizes, query_with_table, some_columns, with_equal_orders, Shape,
-    QUERY_EDGES,
+    any_query, constants_among_produced, dependency, most_orders, nearly_query, own_column_per_set,
+    query, query_of_many_states, query_of_sizes, query_with_table, some_columns, with_equal_orders,
+    Shape, QUERY_EDGES,
 };
 pub use rows::rows;
+pub use supplied::{longest_chain, renumbered, supplied, Kind, Supplied};
 pub use tables::{any_table, table_of_sizes, TABLE_EDGES};

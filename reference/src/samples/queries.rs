@@ -61,6 +61,16 @@ impl Shape {
         sets: (0, 3),
         dependencies: (0, 6),
     };
+    /// More columns than in small queries, and still few enough orderings for
+    /// uncut derivation.
+    pub const MIDDLE: Self = Self {
+        columns: (1, 7),
+        produced: (1, 5),
+        tested: (0, 8),
+        lengths: (0, 4),
+        sets: (0, 6),
+        dependencies: (0, 6),
+    };
 }
 
 /// Produced (a), and per set its own b fixed by a, with (a,b) tested: any choice
@@ -74,6 +84,18 @@ pub fn own_column_per_set(sets: u8) -> Query {
         dependencies: (0..sets)
             .map(|set| Dependency::fix(set, &[0], set + 1))
             .collect(),
+    }
+}
+
+/// The most orders and sets. Set i fixes column 11 by column i, with (i) produced
+/// and (i,11) tested: each start, and each start after its set, is a state.
+pub fn most_orders() -> Query {
+    Query {
+        columns: 12,
+        produced: (0..8).map(|i| vec![i]).collect(),
+        tested: (0..8).map(|i| vec![i, 11]).collect(),
+        sets: 8,
+        dependencies: (0..8).map(|i| Dependency::fix(i, &[i], 11)).collect(),
     }
 }
 
@@ -125,12 +147,38 @@ pub fn query(random: &mut Random, shape: Shape) -> Query {
 
 /// A random query that is not refused, with its table.
 pub fn query_with_table(random: &mut Random, shape: Shape) -> (Query, Vec<u8>) {
+    first_with_table(|| query(random, shape))
+}
+
+/// A random query that differs from this one in one order or one dependency, if
+/// at all, and is not refused, with its table.
+pub fn near_query_with_table(random: &mut Random, query: &Query) -> (Query, Vec<u8>) {
+    first_with_table(|| with_an_item_changed(random, query))
+}
+
+/// The first query made so that is not refused, with its table.
+fn first_with_table(mut make: impl FnMut() -> Query) -> (Query, Vec<u8>) {
     loop {
-        let query = query(random, shape);
+        let query = make();
         if let Ok(table) = build_table(&query.write()) {
             return (query, table);
         }
     }
+}
+
+/// A query of the same sizes with one order or one dependency made anew.
+fn with_an_item_changed(random: &mut Random, query: &Query) -> Query {
+    let mut changed = query.clone();
+    let orders = changed.produced.iter_mut().chain(&mut changed.tested);
+    let mut orders: Vec<&mut Order> = orders.collect();
+    let item = random.below(orders.len() + query.dependencies.len());
+    if item < orders.len() {
+        *orders[item] = some_columns(random, query.columns, Shape::FULL.lengths);
+    } else {
+        let made_anew = dependency(random, query.columns, query.sets);
+        changed.dependencies[item - orders.len()] = made_anew;
+    }
+    changed
 }
 
 /// A random query with many states: most sets fix a column of their own, so that

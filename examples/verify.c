@@ -1,0 +1,49 @@
+/* A planner that gets its tables from a supplier: it uses one only when its trial for the query accepts it.
+ * The query and the tables are files of examples/: columns a, b, c; orders (a) and (b,a) can be produced, (a,b) and (c) are only looked for;
+ * set 0 brings a -> b and set 1 brings b = c. It runs in the folder above. */
+#include <stdio.h>
+
+#include "order_tables.h"
+
+static const char *const names[3] = {"first", "renumbered", "damaged"};
+
+/* Each buffer has room for one byte more than the longest, so that a longer file is refused and not cut. */
+static uint8_t query[ORDER_TABLE_LONGEST_QUERY + 1];
+static uint8_t table[ORDER_TABLE_LONGEST_TABLE + 1];
+static uint8_t scratch[ORDER_TABLE_SCRATCH];
+
+/* Reads a file's bytes, as far as there is room. Gives how many they are; none when the file cannot be read. */
+static size_t read_file(const char *path, uint8_t *bytes, size_t room) {
+    FILE *file = fopen(path, "rb");
+    if (file == NULL) {
+        return 0;
+    }
+    size_t length = fread(bytes, 1, room, file);
+    fclose(file);
+    return length;
+}
+
+/* Uses a table that was accepted: says whether a scan in (a) is in the order (a,b) after set 0. */
+static void print_use(size_t length) {
+    uint8_t scan = (uint8_t)order_table_value(order_table_enter(table, length, 0));
+    uint8_t selected = (uint8_t)order_table_value(order_table_take(table, length, scan, 0));
+    const char *held = order_table_ask(table, length, selected, 2) == 1 ? "held" : "not held";
+    printf("after set 0 state %u, (a,b) %s\n", selected, held);
+}
+
+int main(void) {
+    size_t query_length = read_file("examples/first.query", query, sizeof query);
+    for (size_t i = 0; i < 3; i++) {
+        char path[64];
+        snprintf(path, sizeof path, "examples/%s.table", names[i]);
+        size_t length = read_file(path, table, sizeof table);
+        uint32_t verified = order_table_verify(query, query_length, table, length, scratch, sizeof scratch);
+        if (order_table_refusal(verified) == ORDER_TABLE_GRANTED) {
+            printf("%s: accepted, ", names[i]);
+            print_use(length);
+        } else {
+            printf("%s: refused with %u\n", names[i], order_table_refusal(verified));
+        }
+    }
+    return 0;
+}

@@ -1,0 +1,241 @@
+//! A supplier's table on trial. Beside the trial stands the plain model, which is
+//! put to every run of sets that may be needed.
+
+use std::collections::{BTreeSet, HashSet};
+
+use reference::buffers::SCRATCH_BYTES;
+use reference::builder::table_of;
+use reference::derivation::Ordering;
+use reference::model::Model;
+use reference::random::Random;
+use reference::samples::{self, most_orders, own_column_per_set, Kind, Shape, Supplied};
+use reference::table::Table;
+use reference::{trials, Implementation, Query, Reference};
+
+/// Small enough for every run of sets.
+const TINY: Shape = Shape {
+    columns: (1, 3),
+    produced: (1, 2),
+    tested: (0, 3),
+    lengths: (0, 3),
+    sets: (0, 2),
+    dependencies: (0, 3),
+};
+
+/// The most runs of one length that are put to a table.
+const MOST_RUNS: usize = 2048;
+
+fn verify(query: &Query, table: &[u8]) -> Result<(), u8> {
+    Reference::verify(&query.write(), table, &mut [7; SCRATCH_BYTES])
+}
+
+/// The plain model after an entry by each produced order.
+fn starts(query: &Query) -> impl Iterator<Item = (u8, Model<'_>)> {
+    (0..query.produced.len() as u8).map(|produced| {
+        let mut model = Model::new(query);
+        model.enter(produced).expect("a produced order");
+        (produced, model)
+    })
+}
+
+/// The plain model after one set more.
+fn taken<'q>(model: &Model<'q>, set: u8) -> Model<'q> {
+    let mut model = model.clone();
+    model.take(set).expect("a set");
+    model
+}
+
+/// How many sets of orderings the plain model reaches.
+fn uncut_states(query: &Query) -> usize {
+    let mut seen: HashSet<BTreeSet<Ordering>> = HashSet::new();
+    let mut waiting: Vec<Model> = starts(query).map(|(_, model)| model).collect();
+    while let Some(model) = waiting.pop() {
+        if seen.insert(model.orderings().iter().cloned().collect()) {
+            waiting.extend((0..query.sets).map(|set| taken(&model, set)));
+        }
+    }
+    seen.len()
+}
+
+/// The length of the shortest run of sets after which a table answers otherwise
+/// than the plain model, if one of at most so many sets does.
+fn shortest_wrong_run(query: &Query, table: &[u8], most: usize) -> Option<usize> {
+    let orders = query.interesting().count() as u8;
+    let answers_alike = |(model, state): &(Model, u8)| {
+        (0..orders).all(|order| Reference::ask(table, *state, order) == model.ask(order))
+    };
+    let entered = starts(query).map(|(produced, model)| {
+        let state = Reference::enter(table, produced).expect("a produced order");
+        (model, state)
+    });
+    let mut runs: Vec<(Model, u8)> = entered.collect();
+    for length in 0..=most {
+        if !runs.iter().all(answers_alike) {
+            return Some(length);
+        }
+        let longer = runs.iter().flat_map(|(model, state)| {
+            (0..query.sets).map(move |set| {
+                let next = Reference::take(table, *state, set).expect("a set");
+                (taken(model, set), next)
+            })
+        });
+        runs = longer.collect();
+    }
+    None
+}
+
+/// How long a run must be at most to tell a table from the plain model: their
+/// states are told apart by runs that are shorter by two than there are states
+/// in both.
+fn telling_length(query: &Query, table: &Table) -> usize {
+    uncut_states(query) + table.states.len() - 2
+}
+
+#[test]
+fn a_table_is_refused_exactly_when_a_run_of_sets_leads_to_a_wrong_answer() {
+    let mut random = Random::new(31);
+    let mut accepted = 0;
+    let mut wrong_after = [0; 4];
+    for _ in 0..1000 {
+        let (query, own) = samples::query_with_table(&mut random, TINY);
+        let own_table = Table::read(&own).expect("a built table has the form");
+        for kind in Kind::ALL {
+            let Supplied { table, known } =
+                samples::supplied(&mut random, kind, &query, &own_table);
+            let verified = verify(&query, &table);
+            let case = format!("{kind:?} {table:?} {query:?}");
+            assert!(known.is_none_or(|known| known == verified), "{case}");
+            let length = match Table::read(&table) {
+                Err(refusal) => {
+                    assert_eq!(verified, Err(refusal), "{case}");
+                    continue;
+                }
+                Ok(_) if table[1..4] != own[1..4] => {
+                    assert_eq!(verified, Err(12), "{case}");
+                    continue;
+                }
+                Ok(table) => telling_length(&query, &table),
+            };
+            let runs = usize::from(query.sets).checked_pow(length as u32);
+            if runs.is_none_or(|runs| runs > MOST_RUNS) {
+                continue;
+            }
+            let wrong = shortest_wrong_run(&query, &table, length);
+            let expected = wrong.map_or(Ok(()), |_| Err(13));
+            assert_eq!(verified, expected, "{case}");
+            match wrong {
+                None => accepted += 1,
+                Some(length) => wrong_after[length.min(3)] += 1,
+            }
+        }
+    }
+    let enough = accepted > 5000 && wrong_after.iter().all(|&tables| tables > 50);
+    assert!(
+        enough,
+        "{accepted} accepted, wrong after sets: {wrong_after:?}"
+    );
+}
+
+#[test]
+fn a_wrong_answer_after_127_sets_is_found() {
+    let mut random = Random::new(32);
+    let (query, right) = samples::longest_chain();
+    let mut wrong = right.clone();
+    wrong.states[127].held = 0;
+    for _ in 0..20 {
+        let [right, wrong] =
+            [&right, &wrong].map(|table| samples::renumbered(&mut random, table).write());
+        assert_eq!(shortest_wrong_run(&query, &right, 127), None);
+        assert_eq!(verify(&query, &right), Ok(()));
+        assert_eq!(shortest_wrong_run(&query, &wrong, 127), Some(127));
+        assert_eq!(verify(&query, &wrong), Err(13));
+    }
+}
+
+#[test]
+fn every_start_is_tried() {
+    let query = Query {
+        columns: 3,
+        produced: vec![vec![0], vec![1], vec![2]],
+        tested: vec![],
+        sets: 0,
+        dependencies: vec![],
+    };
+    let own = table_of(&query.write()).expect("the query has a table");
+    for start in 0..3 {
+        let mut wrong = own.clone();
+        wrong.starts[start] = (wrong.starts[start] + 1) % 3;
+        assert_eq!(verify(&query, &wrong.write()), Err(13), "start {start}");
+    }
+}
+
+#[test]
+fn every_held_bit_of_every_state_is_tried() {
+    for (query, states, orders) in [(own_column_per_set(7), 128, 8), (most_orders(), 16, 16)] {
+        let own = table_of(&query.write()).expect("the query has a table");
+        assert_eq!((own.states.len(), own.interesting()), (states, orders));
+        for state in 0..states {
+            for order in 0..orders {
+                let mut wrong = own.clone();
+                wrong.states[state].held ^= 1 << order;
+                assert_eq!(verify(&query, &wrong.write()), Err(13), "{state} {order}");
+            }
+        }
+    }
+}
+
+#[test]
+fn tables_of_trials_are_wrong_after_as_many_sets_as_is_said_of_them() {
+    for (name, sets) in [
+        ("supplied_pair_of_fixes", Some(1)),
+        ("supplied_prefix_test", Some(2)),
+        ("supplied_wrong_after_three_sets", Some(3)),
+        ("supplied_renumbered", None),
+        ("supplied_twin_rows", None),
+        ("supplied_unreachable_row", None),
+    ] {
+        let trial = trials::named(name);
+        let query = Query::read(&trial.query).expect("the trial's query is read");
+        let table = Table::read(&trial.supplied).expect("the trial's table has the form");
+        let length = telling_length(&query, &table);
+        let wrong = shortest_wrong_run(&query, &trial.supplied, length);
+        assert_eq!(wrong, sets, "trial {name}");
+    }
+}
+
+#[test]
+fn a_table_of_other_sizes_may_be_right_for_its_own_query() {
+    let trial = trials::named("supplied_sizes_differ");
+    let mut query = Query::read(&trial.query).expect("the trial's query is read");
+    assert_eq!(verify(&query, &trial.supplied), Err(12));
+    query.tested.pop();
+    assert_eq!(verify(&query, &trial.supplied), Ok(()));
+}
+
+#[test]
+fn right_tables_differ_from_the_own_one_as_is_said_of_them() {
+    let mut random = Random::new(33);
+    let mut renumbered = 0;
+    for _ in 0..500 {
+        let (query, own) = samples::query_with_table(&mut random, Shape::SMALL);
+        let own = Table::read(&own).expect("a built table has the form");
+        let mut supplied = |kind| {
+            let supplied = samples::supplied(&mut random, kind, &query, &own).table;
+            Table::read(&supplied).expect("a right table has the form")
+        };
+        assert_eq!(supplied(Kind::Own), own);
+        let table = supplied(Kind::Renumbered);
+        assert_eq!(table.states.len(), own.states.len());
+        renumbered += usize::from(table != own);
+        let mut longer = vec![Kind::TwinRows, Kind::UnreachableRows];
+        if query.sets > 0 {
+            longer.push(Kind::Chain);
+        }
+        for kind in longer {
+            let states = supplied(kind).states.len();
+            let room = own.states.len() < 128;
+            assert_eq!(states > own.states.len(), room, "{kind:?} {query:?}");
+        }
+    }
+    assert!(renumbered > 200, "only {renumbered} tables are renumbered");
+}
