@@ -51,7 +51,7 @@ module _ {a b m : Bytes} (w : Walking a b m) where
         (starts (startPair a b p) (Memᴰ·map (startPair a b) (upFrom-member 0 (producedIn a) (omega arith) (omega arith)))))
 
 -- the set that was grown from the starts
-pub all-together : {a b m m′ m″ : Bytes} {r : ℕ} → Added (map (startPair a b) (upFrom 0 (producedIn a))) m m′ r → Closed a b m′ m″ → AllTogether a b m″
+pub all-together : {a b m m′ m″ : Bytes} {r : ℕ} → Added 0 (map (startPair a b) (upFrom 0 (producedIn a))) m m′ r → Closed a b m′ m″ → AllTogether a b m″
 all-together d c = record { walking = c .walking; complete = in-all (c .walking) (c .closed) (λ j k. c .keeps j (d .has j k)) }
 
 -- where it has exactly the pairs that are reached

@@ -33,51 +33,52 @@ unfolding pairCount
 count-grows m m′ keeps i h a b = below-grows m m′ keeps maxPairs i h a b
 
 -- no pair, a pair that is there, a new one, and some after others
-pub added-none : (m : Bytes) → Added [] m m 0
-added-none m =
-    record { long = refl; keeps = λ j k. k; has = λ j k. absurd (List·Memᴰ·not-nil k); only = λ j k. inr k; counted = omega arith; few = omega arith; still = λ z. refl }
+module _ {bound : ℕ} where
+  pub added-none : (m : Bytes) → Added bound [] m m 0
+  added-none m =
+      record { long = refl; keeps = λ j k. k; has = λ j k. absurd (List·Memᴰ·not-nil k); only = λ j k. inr k; counted = omega arith; few = omega arith; behind = λ z j h k. k }
 
-pub added-there : (m : Bytes) (i : ℕ) → inMarks m i ≡ true → Added (i ∷ []) m m 0
-added-there m i e =
-    record {
-      long = refl;
-      keeps = λ j k. k;
-      has = λ j k. ap (inMarks m) (List·Memᴰ·eq-of-singleton k) ∙ e;
-      only = λ j k. inr k;
-      counted = omega arith;
-      few = omega arith;
-      still = λ z. refl;
-    }
+  pub added-there : (m : Bytes) (i : ℕ) → inMarks m i ≡ true → Added bound (i ∷ []) m m 0
+  added-there m i e =
+      record {
+        long = refl;
+        keeps = λ j k. k;
+        has = λ j k. ap (inMarks m) (List·Memᴰ·eq-of-singleton k) ∙ e;
+        only = λ j k. inr k;
+        counted = omega arith;
+        few = omega arith;
+        behind = λ z j h k. k;
+      }
 
-pub added-new : (m : Bytes) (i : ℕ) {m′ : Bytes} → i / 8 < length m → i < maxPairs → inMarks m i ≡ false → m′ ≡ withMark m i → Added (i ∷ []) m m′ 1
-added-new m i within h e same =
-    rw same
-    (record {
-      long = mark-length m i;
-      keeps = mark-keeps m i within;
-      has = λ j k. ap (inMarks (withMark m i)) (List·Memᴰ·eq-of-singleton k) ∙ mark-sets m i within;
-      only = λ j k. ⊎-elim (λ q. inl (List·Memᴰ·head q)) inr (mark-only m i within j k);
-      counted = omega (arith, count-grows m (withMark m i) (mark-keeps m i within) i h e (mark-sets m i within));
-      few = omega arith;
-      still = λ z. let no : ⊥ = omega arith in absurd no;
-    })
+  pub added-new : (m : Bytes) (i : ℕ) {m′ : Bytes} {r : ℕ} → i / 8 < length m → i < maxPairs → inMarks m i ≡ false → m′ ≡ withMark m i → r ≤ 1 → (r ≡ 0 → bound ≤ i) → Added bound (i ∷ []) m m′ r
+  added-new m i within h e same few past =
+      rw same
+      (record {
+        long = mark-length m i;
+        keeps = mark-keeps m i within;
+        has = λ j k. ap (inMarks (withMark m i)) (List·Memᴰ·eq-of-singleton k) ∙ mark-sets m i within;
+        only = λ j k. ⊎-elim (λ q. inl (List·Memᴰ·head q)) inr (mark-only m i within j k);
+        counted = omega (arith, count-grows m (withMark m i) (mark-keeps m i within) i h e (mark-sets m i within));
+        few = omega arith;
+        behind = λ z j l k. ⊎-elim (λ q. let b = past z in absurd (omega arith)) (λ p. p) (mark-only m i within j k);
+      })
 
-pub added-more : {xs ys zs : List ℕ} {m m′ m″ : Bytes} {r s : ℕ} → zs ≡ xs ++ ys → Added xs m m′ r → Added ys m′ m″ s → Added zs m m″ (r + s)
-added-more {xs} {ys} {m = m} {m″ = m″} {r = r} {s = s} e a b =
-    subst (λ l. Added l m m″ (r + s)) (sym e)
-    (record {
-      long = b .long ∙ a .long;
-      keeps = λ j k. b .keeps j (a .keeps j k);
-      has = λ j k. ⊎-elim (λ l. b .keeps j (a .has j l)) (b .has j) (List·Memᴰ·append-cases xs k);
-      only = λ j k. ⊎-elim (λ l. inl (Memᴰ·append-right xs l)) (λ l. ⊎-elim (λ n. inl (Memᴰ·append-left ys n)) inr (a .only j l)) (b .only j k);
-      counted = omega (arith, a .counted, b .counted);
-      few = omega (arith, a .counted, b .counted, count-few m″);
-      still = λ z. b .still (omega arith) ∙ a .still (omega arith);
-    })
+  pub added-more : {xs ys zs : List ℕ} {m m′ m″ : Bytes} {r s : ℕ} → zs ≡ xs ++ ys → Added bound xs m m′ r → Added bound ys m′ m″ s → Added bound zs m m″ (r + s)
+  added-more {xs} {ys} {m = m} {m″ = m″} {r = r} {s = s} e a b =
+      subst (λ l. Added bound l m m″ (r + s)) (sym e)
+      (record {
+        long = b .long ∙ a .long;
+        keeps = λ j k. b .keeps j (a .keeps j k);
+        has = λ j k. ⊎-elim (λ l. b .keeps j (a .has j l)) (b .has j) (List·Memᴰ·append-cases xs k);
+        only = λ j k. ⊎-elim (λ l. inl (Memᴰ·append-right xs l)) (λ l. ⊎-elim (λ n. inl (Memᴰ·append-left ys n)) inr (a .only j l)) (b .only j k);
+        counted = omega (arith, a .counted, b .counted);
+        few = omega (arith, a .counted, b .counted, count-few m″);
+        behind = λ z j h k. a .behind (omega arith) j h (b .behind (omega arith) j h k);
+      })
 
--- .. and one more of what f gives at the numbers from 0 on
-pub added-next : (f : ℕ → ℕ) (n : ℕ) {j : ℕ} {m m′ m″ : Bytes} {r s : ℕ} → Added (map f (upFrom 0 n)) m m′ r → j ≡ f n → Added (j ∷ []) m′ m″ s → Added (map f (upFrom 0 (n + 1))) m m″ (r + s)
-added-next f n {m′ = m′} {m″ = m″} {s = s} d e one = added-more (map-more f 0 n n (sym (zero-add n))) d (subst (λ k. Added (k ∷ []) m′ m″ s) e one)
+  -- .. and one more of what f gives at the numbers from 0 on
+  pub added-next : (f : ℕ → ℕ) (n : ℕ) {j : ℕ} {m m′ m″ : Bytes} {r s : ℕ} → Added bound (map f (upFrom 0 n)) m m′ r → j ≡ f n → Added bound (j ∷ []) m′ m″ s → Added bound (map f (upFrom 0 (n + 1))) m m″ (r + s)
+  added-next f n {m′ = m′} {m″ = m″} {s = s} d e one = added-more (map-more f 0 n n (sym (zero-add n))) d (subst (λ k. Added bound (k ∷ []) m′ m″ s) e one)
 
 -- a byte that is 0 has none of its eight pairs, and bytes that are all 0 have none
 pub byte-none : (m : Bytes) (k : ℕ) → byteAt m k ≡ 0 → (i : ℕ) → 8 * k ≤ i → i < 8 * k + 8 → inMarks m i ≡ false
@@ -97,7 +98,7 @@ none-marked d i =
 module _ {a b : Bytes} where
   -- the set of the starts
   pub starts-walking : Comparable a b → (d : Bytes) {m m′ : Bytes} {r : ℕ} → length d ≡ pairsLength → m ≡ zeroed (length d) d → length m ≡ length d →
-      Added (map (startPair a b) (upFrom 0 (producedIn a))) m m′ r → Walking a b m′
+      Added 0 (map (startPair a b) (upFrom 0 (producedIn a))) m m′ r → Walking a b m′
   starts-walking c d l z e t =
       record {
         comparable = c;
@@ -108,7 +109,7 @@ module _ {a b : Bytes} where
   -- no turn, turns that find nothing, one visit, and some turns after others
   pub visited-none : {from to : ℕ} {m : Bytes} → from ≡ to → Walking a b m → Visited a b from to m m 0
   visited-none e w =
-      record { walking = w; keeps = λ j k. k; counted = omega arith; few = omega arith; still = λ z. refl; closed = λ z k f t. let no : ⊥ = omega arith in absurd no }
+      record { walking = w; keeps = λ j k. k; counted = omega arith; few = omega arith; behind = λ z j h k. k; closed = λ z k f t. let no : ⊥ = omega arith in absurd no }
 
   pub visited-skip : {from to : ℕ} {m : Bytes} → Walking a b m → ((i : ℕ) → from ≤ i → i < to → inMarks m i ≡ false) → Visited a b from to m m 0
   visited-skip w none =
@@ -117,14 +118,14 @@ module _ {a b : Bytes} where
         keeps = λ j k. k;
         counted = omega arith;
         few = omega arith;
-        still = λ z. refl;
+        behind = λ z j h k. k;
         closed = λ z i f t k. absurd (false≢true (sym (none i f t) ∙ k));
       }
 
   pub visited-over : {i : ℕ} {m : Bytes} → Walking a b m → inMarks m i ≡ false → Visited a b i (i + 1) m m 0
   visited-over {i} {m} w e = visited-skip w (λ j f t. let same : j ≡ i = omega arith in ap (inMarks m) same ∙ e)
 
-  pub visited-one : {i : ℕ} {m m′ : Bytes} {r : ℕ} → Walking a b m → inMarks m i ≡ true → Added (nextPairs a b i) m m′ r → Visited a b i (i + 1) m m′ r
+  pub visited-one : {i : ℕ} {m m′ : Bytes} {r : ℕ} → Walking a b m → inMarks m i ≡ true → Added i (nextPairs a b i) m m′ r → Visited a b i (i + 1) m m′ r
   visited-one {i} {m′ = m′} w e d =
       record {
         walking =
@@ -136,24 +137,24 @@ module _ {a b : Bytes} where
         keeps = d .keeps;
         counted = d .counted;
         few = d .few;
-        still = d .still;
+        behind = d .behind;
         closed = λ z k f t g j n. let same : k ≡ i = omega arith in d .has j (subst (λ l. List·Memᴰ j (nextPairs a b l)) same n);
       }
 
-  pub visited-more : {from mid to last : ℕ} {m m′ m″ : Bytes} {r s : ℕ} → last ≡ to → Visited a b from mid m m′ r → Visited a b mid to m′ m″ s → Visited a b from last m m″ (r + s)
-  visited-more {from} {mid} {to} {last} {m′ = m′} {m″ = m″} {r = r} {s = s} e v w =
+  pub visited-more : {from mid to last : ℕ} {m m′ m″ : Bytes} {r s : ℕ} → from ≤ mid → last ≡ to → Visited a b from mid m m′ r → Visited a b mid to m′ m″ s → Visited a b from last m m″ (r + s)
+  visited-more {from} {mid} {to} {last} {m′ = m′} {m″ = m″} {r = r} {s = s} h e v w =
       record {
         walking = w .walking;
         keeps = λ j k. w .keeps j (v .keeps j k);
         counted = omega (arith, v .counted, w .counted);
         few = omega (arith, v .counted, w .counted, count-few m″);
-        still = λ z. w .still (omega arith) ∙ v .still (omega arith);
+        behind = λ z j l k. v .behind (omega arith) j l (w .behind (omega arith) j (omega arith) k);
         closed = λ z i f t k. go i f t k (omega arith) (omega arith) (says-ltb i mid);
       }
     where
       go : (i : ℕ) → from ≤ i → i < last → inMarks m″ i ≡ true → r ≡ 0 → s ≡ 0 → {q : Bool} → Says (i < mid) q → (j : ℕ) → List·Memᴰ j (nextPairs a b i) → inMarks m″ j ≡ true
-      go i f t k x y (holds h) j n = w .keeps j (v .closed x i f h (subst (λ l. inMarks l i ≡ true) (w .still y) k) j n)
-      go i f t k x y (fails h) j n = w .closed y i (omega arith) (omega arith) k j n
+      go i f t k x y (holds l) j n = w .keeps j (v .closed x i f l (w .behind y i l k) j n)
+      go i f t k x y (fails l) j n = w .closed y i (omega arith) (omega arith) k j n
 
   -- passes end: each that adds something leaves fewer pairs to add
   pub pass-less : {from to : ℕ} {m m′ : Bytes} {r : ℕ} → Visited a b from to m m′ r → r ≢ 0 → maxPairs - pairCount m′ < maxPairs - pairCount m

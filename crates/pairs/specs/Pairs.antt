@@ -56,24 +56,24 @@ pub record Walking (a b m : Bytes) : Type 0 where
 unfoldable pub pairCount : Bytes → ℕ
 pairCount m = marksBelow maxPairs m
 
--- The pairs xs were put into the set m, which became m′; r of them at least were not there, and where r is 0, none.
-pub record Added (xs : List ℕ) (m m′ : Bytes) (r : ℕ) : Type 0 where
+-- The pairs xs were put into the set m, which became m′. Those with a number below `bound` that were not there are counted: r of them at least, and where r is 0, none.
+pub record Added (bound : ℕ) (xs : List ℕ) (m m′ : Bytes) (r : ℕ) : Type 0 where
   pub long : length m′ ≡ length m
   pub keeps : (j : ℕ) → inMarks m j ≡ true → inMarks m′ j ≡ true
   pub has : (j : ℕ) → List·Memᴰ j xs → inMarks m′ j ≡ true
   pub only : (j : ℕ) → inMarks m′ j ≡ true → List·Memᴰ j xs ⊎ (inMarks m j ≡ true)
   pub counted : r + pairCount m ≤ pairCount m′
   pub few : r ≤ maxPairs
-  pub still : r ≡ 0 → m′ ≡ m
+  pub behind : r ≡ 0 → (j : ℕ) → j < bound → inMarks m′ j ≡ true → inMarks m j ≡ true
 
--- The pairs with the numbers from `from` to below `to` had their turn, from the set m to the set m′, and r of the pairs that they lead to were added. Where none was, all
--- that they lead to is there.
+-- The pairs with the numbers from `from` to below `to` had their turn, from the set m to the set m′. Of the pairs that were added, r had no turn behind them; where r is 0,
+-- none was added before `from`, and all that the pairs that had their turn lead to is there.
 pub record Visited (a b : Bytes) (from to : ℕ) (m m′ : Bytes) (r : ℕ) : Type 0 where
   pub walking : Walking a b m′
   pub keeps : (j : ℕ) → inMarks m j ≡ true → inMarks m′ j ≡ true
   pub counted : r + pairCount m ≤ pairCount m′
   pub few : r ≤ maxPairs
-  pub still : r ≡ 0 → m′ ≡ m
+  pub behind : r ≡ 0 → (j : ℕ) → j < from → inMarks m′ j ≡ true → inMarks m j ≡ true
   pub closed : r ≡ 0 → (i : ℕ) → from ≤ i → i < to → inMarks m′ i ≡ true → (j : ℕ) → List·Memᴰ j (nextPairs a b i) → inMarks m′ j ≡ true
 
 -- The states of each pair of the set, with a number from `from` to below `to`, hold the same orders.

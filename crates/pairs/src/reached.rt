@@ -20,37 +20,41 @@ fn pair(x: u8, y: u8) -> usize
     MAX_STATES * x as usize + y as usize
 }
 
-// Put a pair into the set; 1 where it was not there.
-fn add(pairs: &mut [u8], i: usize) -> usize
+// Put a pair into the set; 1 where it was not there and its number is below the bound.
+fn add(pairs: &mut [u8], i: usize, bound: usize) -> usize
     requires { ⌜ (length (now pairs) ≡ pairsLength) × (i < maxPairs) ⌝ }
-    ensures { λ r. ⌜ Added (i ∷ []) (now (pairs .entry)) (now (pairs .exit)) r ⌝ }
+    ensures { λ r. ⌜ Added bound (i ∷ []) (now (pairs .entry)) (now (pairs .exit)) r ⌝ }
 {
     if marks::marked(pairs, i) {
         return 0;
     }
     marks::mark(pairs, i);
-    1
+    if i < bound { 1 } else { 0 }
 }
 
 // The pair of each produced order's starts.
 fn add_starts(ours: &[u8], theirs: &[u8], pairs: &mut [u8]) -> usize
     requires { ⌜ Comparable (now ours) (now theirs) × (length (now pairs) ≡ pairsLength) ⌝ }
-    ensures { λ r. ⌜ Added (map (startPair (now (ours .entry)) (now (theirs .entry))) (upFrom 0 (producedIn (now (ours .entry))))) (now (pairs .entry)) (now (pairs .exit)) r ⌝ }
+    ensures { λ r. ⌜ Added 0 (map (startPair (now (ours .entry)) (now (theirs .entry))) (upFrom 0 (producedIn (now (ours .entry))))) (now (pairs .entry)) (now (pairs .exit)) r ⌝ }
 {
     let produced = table::produced(ours);
     let mut count = 0;
     let mut p = 0;
     while p < produced {
-        count += add(pairs, pair(ours[TABLE_SIZES + p], theirs[TABLE_SIZES + p]));
+        count += add(
+            pairs,
+            pair(ours[TABLE_SIZES + p], theirs[TABLE_SIZES + p]),
+            0,
+        );
         p += 1;
     }
     count
 }
 
-// What taking each set leads to from pair i.
+// What taking each set leads to from pair i; the pairs with smaller numbers, whose turn is over, are counted.
 fn visit(ours: &[u8], theirs: &[u8], pairs: &mut [u8], i: usize) -> usize
     requires { ⌜ Walking (now ours) (now theirs) (now pairs) × (inMarks (now pairs) i ≡ true) × (i < maxPairs) ⌝ }
-    ensures { λ r. ⌜ Added (nextPairs (now (ours .entry)) (now (theirs .entry)) i) (now (pairs .entry)) (now (pairs .exit)) r ⌝ }
+    ensures { λ r. ⌜ Added i (nextPairs (now (ours .entry)) (now (theirs .entry)) i) (now (pairs .entry)) (now (pairs .exit)) r ⌝ }
 {
     let sets = table::sets(ours);
     let our_row = table::successors(ours, i / MAX_STATES);
@@ -58,7 +62,7 @@ fn visit(ours: &[u8], theirs: &[u8], pairs: &mut [u8], i: usize) -> usize
     let mut count = 0;
     let mut s = 0;
     while s < sets {
-        count += add(pairs, pair(our_row[s], their_row[s]));
+        count += add(pairs, pair(our_row[s], their_row[s]), i);
         s += 1;
     }
     count
@@ -93,7 +97,7 @@ fn turn_byte(ours: &[u8], theirs: &[u8], pairs: &mut [u8], k: usize) -> usize
     count
 }
 
-// Each pair in its turn.
+// Each pair in its turn, also those that are added on the way.
 fn pass(ours: &[u8], theirs: &[u8], pairs: &mut [u8]) -> usize
     requires { ⌜ Walking (now ours) (now theirs) (now pairs) ⌝ }
     ensures { λ r. ⌜ Visited (now (ours .entry)) (now (theirs .entry)) 0 (maxStates * statesIn (now (ours .entry))) (now (pairs .entry)) (now (pairs .exit)) r ⌝ }
@@ -108,7 +112,7 @@ fn pass(ours: &[u8], theirs: &[u8], pairs: &mut [u8]) -> usize
     count
 }
 
-// Passes are repeated until one adds nothing.
+// Passes are repeated until one adds no pair whose turn was over.
 fn close(ours: &[u8], theirs: &[u8], pairs: &mut [u8])
     requires { ⌜ Walking (now ours) (now theirs) (now pairs) ⌝ }
     ensures { λ r. ⌜ Closed (now (ours .entry)) (now (theirs .entry)) (now (pairs .entry)) (now (pairs .exit)) ⌝ }

@@ -18,7 +18,7 @@ use Rattle.pairs.proofs.reached.add_starts.Statement.{statement}
 use Rattle.pairs.proofs.reached.add_starts.Tie as tie
 
 abbrev Inv-loop : tie.InvT-loop
-Inv-loop ours theirs pairs₀ produced count₀ p₀ pairs count p = (p ≤ produced) × (produced ≡ producedIn ours) × (length pairs ≡ length pairs₀) × Added (map (startPair ours theirs) (upFrom 0 p)) pairs₀ pairs count
+Inv-loop ours theirs pairs₀ produced count₀ p₀ pairs count p = (p ≤ produced) × (produced ≡ producedIn ours) × (length pairs ≡ length pairs₀) × Added 0 (map (startPair ours theirs) (upFrom 0 p)) pairs₀ pairs count
 
 abbrev μ-loop : tie.MeasureT-loop
 μ-loop ours theirs pairs₀ produced count₀ p₀ pairs count p = produced - p

@@ -43,7 +43,7 @@ loop-less c = search needs
 loop-again : tie.Need-loop-again Inv-loop μ-loop
 loop-again c = let l = c .before .before .before .before .before .loop in let s = c .before .before .before .before .before .before .before .before .before .before in
     let v = c .before .before .turn-byte .ensures in
-    (omega arith, l .inv .1, v .walking .long ∙ sym (s .pre .long), visited-more (omega arith) (l .inv .3) v)
+    (omega arith, l .inv .1, v .walking .long ∙ sym (s .pre .long), visited-more (omega arith) (omega arith) (l .inv .3) v)
 
 same-length : tie.Need-same-length Inv-loop μ-loop
 same-length c = search needs

@@ -47,7 +47,7 @@ loop-less c = search needs
 loop-again : tie.Need-loop-again Inv-loop μ-loop
 loop-again c = let l = c .before .before .before .before .before .loop in let s = c .before .before .before .before .before .before .before .before .before .before .before in
     let v = c .before .before .turn .ensures in
-    (omega arith, v .walking .long ∙ sym (s .pre .0 .long), visited-more (omega arith) (l .inv .2) v)
+    (omega arith, v .walking .long ∙ sym (s .pre .0 .long), visited-more (omega arith) (omega arith) (l .inv .2) v)
 
 same-length : tie.Need-same-length Inv-loop μ-loop
 same-length c = search needs

@@ -21,7 +21,7 @@ use Rattle.pairs.proofs.reached.visit.Statement.{statement}
 use Rattle.pairs.proofs.reached.visit.Tie as tie
 
 abbrev Inv-loop : tie.InvT-loop
-Inv-loop ours theirs pairs₀ i sets our-row their-row count₀ s₀ pairs count s = (s ≤ sets) × (sets ≡ setsIn ours) × (length pairs ≡ length pairs₀) × Added (map (nextPair ours theirs i) (upFrom 0 s)) pairs₀ pairs count
+Inv-loop ours theirs pairs₀ i sets our-row their-row count₀ s₀ pairs count s = (s ≤ sets) × (sets ≡ setsIn ours) × (length pairs ≡ length pairs₀) × Added i (map (nextPair ours theirs i) (upFrom 0 s)) pairs₀ pairs count
 
 abbrev μ-loop : tie.MeasureT-loop
 μ-loop ours theirs pairs₀ i sets our-row their-row count₀ s₀ pairs count s = sets - s
