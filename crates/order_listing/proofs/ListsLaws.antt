@@ -1,6 +1,6 @@
 -- The listing of what was read is the input's.
 use Prim.Native.Nat.{ℕ}
-use mathlib.Core.Path.{_≡_, sym, _∙_, ap, subst}
+use mathlib.Core.Path.{sym, _∙_, ap, subst}
 use Rattle.theory.specs.Query.{Bytes}
 use Rattle.theory.specs.Listing.{listing}
 use Rattle.query_listing.specs.Listed.{Listing}

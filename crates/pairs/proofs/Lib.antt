@@ -1,5 +1,4 @@
--- What the proofs of this crate's functions share.
+-- What the proofs of this crate's functions share, and what callers know of pairs.
 pub mod TogetherLaws
 pub mod SetLaws
-pub mod AnswerLaws
-pub mod HeldLaws
+pub mod ReachLaws

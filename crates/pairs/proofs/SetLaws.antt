@@ -3,9 +3,9 @@ use Prim.Native.Nat.{ℕ, zero, suc, _+_, _*_, _-_, _/_, _%_, _^_, _<_, _≤_}
 use native.Mathlib.Nat.{zero-add, zero-div}
 use native.Mathlib.Omega.{arith}
 use mathlib.Core.Path.{_≡_, refl, sym, _∙_, ap, subst}
-use mathlib.Core.Bool.{Bool, true, false, true≢false, false≢true}
+use mathlib.Core.Bool.{Bool, true, false, false≢true}
 use mathlib.Core.Logic.{_⊎_, inl, inr, ⊎-elim, _≢_}
-use mathlib.Core.List.{List, [], _∷_, _++_, map, append-nil, List·Memᴰ, List·Memᴰ·head, List·Memᴰ·not-nil, List·Memᴰ·eq-of-singleton, List·Memᴰ·append-cases, Memᴰ·append-left, Memᴰ·append-right, Memᴰ·map}
+use mathlib.Core.List.{List, [], _∷_, _++_, map, append-nil, List·Memᴰ, List·Memᴰ·head, List·Memᴰ·not-nil, List·Memᴰ·eq-of-singleton, List·Memᴰ·append-cases, Memᴰ·append-left, Memᴰ·append-right}
 use lib.Dec.{eqb}
 use lib.ListN.{length, drop, replicate}
 use lib.Seq.{drop-length}
@@ -14,14 +14,13 @@ use Rattle.theory.specs.Limits.{maxStates, maxPairs}
 use Rattle.theory.specs.Scratch.{pairsLength}
 use Rattle.theory.specs.Build.{zeroed}
 use Rattle.theory.specs.Query.{Bytes, byteAt}
-use Rattle.theory.specs.Table.{statesIn, producedIn, setsIn}
+use Rattle.theory.specs.Table.{statesIn, producedIn}
 use Rattle.theory.proofs.Reflect.{says-ltb}
 use Rattle.theory.proofs.RangeLaws.{map-more}
-use Rattle.marks.specs.Marks.{inMarks, withMark, marksBelow}
+use Rattle.marks.specs.Marks.{inMarks, withMark}
 use Rattle.marks.proofs.CountLaws.{mark-length, mark-keeps, mark-sets, mark-only, below-few, below-grows}
-use Rattle.table.specs.Form.{Formed}
-use Rattle.pairs.specs.Pairs.{ourState, Comparable, startPair, nextPair, nextPairs, Together, Walking, pairCount, Added, Visited, Closed}
-use Rattle.pairs.proofs.TogetherLaws.{our-form, pair-below, starts-together, nexts-together}
+use Rattle.pairs.specs.Pairs.{Comparable, startPair, nextPairs, Walking, pairCount, Added, Visited, Closed}
+use Rattle.pairs.proofs.TogetherLaws.{pair-below, starts-together, nexts-together}
 
 -- the count of pairs
 count-few : (m : Bytes) → pairCount m ≤ maxPairs

@@ -1,12 +1,12 @@
 -- Two comparable tables: their forms, the states of a pair that is reached, the pairs of the starts, and the pairs that a reached pair leads to.
 use Prim.Native.Nat.{ℕ, _+_, _<_}
 use native.Mathlib.Omega.{arith}
-use mathlib.Core.Path.{_≡_, sym, _∙_, ap₂, subst}
+use mathlib.Core.Path.{_≡_, ap₂, subst}
 use mathlib.Core.List.{map, List·Memᴰ, Memᴰ·of-map}
 use Rattle.theory.specs.Tests.{upFrom}
 use lib.ListN.{length}
 use Rattle.theory.specs.Limits.{maxStates, maxPairs, tableSizes}
-use Rattle.theory.specs.Machine.{Machine, Reached, both}
+use Rattle.theory.specs.Machine.{Reached, both}
 use Rattle.theory.specs.Query.{Bytes}
 use Rattle.theory.specs.Table.{statesIn, producedIn, setsIn, sizesIn, startIn, successorIn, machineIn, tableRefusal}
 use Rattle.theory.specs.Refusals.{passed}
@@ -23,7 +23,7 @@ passed-formed : (t : Bytes) → tableRefusal t ≡ passed → Formed t
 passed-formed t e = formed t (table-checked t e .form)
 
 -- a pair has its number
-pub pair-back : (x y : ℕ) → y < maxStates → _≡_ {A = ℕ × ℕ} (x, y) (ourState (pairNumber x y), theirState (pairNumber x y))
+pair-back : (x y : ℕ) → y < maxStates → _≡_ {A = ℕ × ℕ} (x, y) (ourState (pairNumber x y), theirState (pairNumber x y))
 pair-back x y h =
     let first : x ≡ ourState (pairNumber x y) = omega arith in
     let second : y ≡ theirState (pairNumber x y) = omega arith in
@@ -59,8 +59,12 @@ module _ {a b : Bytes} (c : Comparable a b) where
   pub pair-number : (x : ℕ × ℕ) → Pair x → pairNumber (x .0) (x .1) < maxPairs
   pair-number x r = let l = pair-below x r in omega (arith, l .0, l .1, our-form .few-states, their-form .few-states)
 
+  -- .. which gives its states back
+  pub pair-states : (x : ℕ × ℕ) → Pair x → x ≡ (ourState (pairNumber (x .0) (x .1)), theirState (pairNumber (x .0) (x .1)))
+  pair-states x r = pair-back (x .0) (x .1) (small x r)
+
   pub pair-together : (x : ℕ × ℕ) → Pair x → Together a b (pairNumber (x .0) (x .1))
-  pair-together x r = subst Pair (pair-back (x .0) (x .1) (small x r)) r
+  pair-together x r = subst Pair (pair-states x r) r
 
   -- the starts of a produced order, and where they lie
   pub start-places : (p : ℕ) → p < producedIn a → (tableSizes + p < length a) × (tableSizes + p < length b)

@@ -11,7 +11,7 @@ use Rattle.theory.specs.Machine.{Reached, both}
 use Rattle.theory.specs.Refusals.{passed}
 use Rattle.theory.specs.Scratch.{pairsLength}
 use Rattle.theory.specs.Query.{Bytes}
-use Rattle.theory.specs.Table.{producedIn, testedIn, setsIn, sizesIn, startIn, successorIn, heldOrders, machineIn, tableRefusal}
+use Rattle.theory.specs.Table.{producedIn, testedIn, setsIn, sizesIn, startIn, successorIn, machineIn, tableRefusal}
 use Rattle.marks.specs.Marks.{inMarks, marksBelow}
 
 -- The number of a pair of states, and the states of the pair with a number.
@@ -75,10 +75,6 @@ pub record Visited (a b : Bytes) (from to : ℕ) (m m′ : Bytes) (r : ℕ) : Ty
   pub few : r ≤ maxPairs
   pub behind : r ≡ 0 → (j : ℕ) → j < from → inMarks m′ j ≡ true → inMarks m j ≡ true
   pub closed : r ≡ 0 → (i : ℕ) → from ≤ i → i < to → inMarks m′ i ≡ true → (j : ℕ) → List·Memᴰ j (nextPairs a b i) → inMarks m′ j ≡ true
-
--- The states of each pair of the set, with a number from `from` to below `to`, hold the same orders.
-pub record AlikeFrom (a b m : Bytes) (from to : ℕ) : Type 0 where
-  pub alike : (i : ℕ) → from ≤ i → i < to → inMarks m i ≡ true → heldOrders a (ourState i) ≡ heldOrders b (theirState i)
 
 -- A set that is closed: all that its pairs lead to is there. It has what the set m had.
 pub record Closed (a b m m′ : Bytes) : Type 0 where

@@ -9,18 +9,15 @@ use lib.Dec.{ltb}
 use lib.ListN.{length, length-append, length-take}
 use Rattle.theory.specs.Limits.{scratchLength, longestTable}
 use Rattle.theory.specs.Tests.{pick, upFrom, Says, holds, fails}
-use Rattle.theory.specs.Query.{Bytes, readQuery, queryRefusal}
-use Rattle.theory.specs.Refusals.{passed}
-use Rattle.theory.specs.Table.{Table, writeTable, statesIn, producedIn, setsIn, startIn, rowIn, heldNumber}
-use Rattle.theory.specs.Build.{Constructs, table, Outcome, refused, built, outcome}
+use Rattle.theory.specs.Query.{Bytes, readQuery}
+use Rattle.theory.specs.Table.{statesIn, producedIn, setsIn, startIn, rowIn, heldNumber}
+use Rattle.theory.specs.Build.{Outcome, refused, built, outcome}
 use Rattle.theory.specs.Listing.{decimalWithin, decimal, refusedLabel, statesLabel, nodesLabel, startLabel, stateLabel, nextLabel, heldLabel, lineEnd, spaced, countsLine, startLine, stateLine, tableListing, listed, listing}
 use Rattle.theory.specs.Lookups.{Faithful}
 use Rattle.theory.proofs.Reflect.{says-ltb}
 use Rattle.theory.proofs.ListLaws.{upFrom-length, member-upFrom, getD-member}
-use Rattle.theory.proofs.ConstructionLaws.{made}
 use Rattle.theory.proofs.DemandThree.{Built, built-facts, built-faithful}
 use Rattle.table.specs.Form.{Formed}
-use Rattle.table.proofs.FormLaws.{formed-short}
 use Rattle.builder.proofs.AnswerLaws.{built-formed}
 use Rattle.listing.specs.Text.{longestListing}
 

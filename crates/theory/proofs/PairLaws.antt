@@ -6,7 +6,7 @@ use mathlib.Core.Logic.{_≢_}
 use mathlib.Core.Bool.{Bool, true, false, _&&_, Bool·beq, true≢false}
 use mathlib.Core.List.{List, [], _∷_, map, List·Memᴰ, List·Memᴰ·head, List·Memᴰ·tail, Memᴰ·map}
 use lib.ListN.{length}
-use Rattle.theory.specs.Tests.{Says, holds, fails, Decides, upFrom, every, sameList}
+use Rattle.theory.specs.Tests.{Says, Decides, upFrom, every, sameList}
 use Rattle.theory.specs.Limits.{maxStates, maxPairs}
 use Rattle.theory.specs.Machine.{Sizes, Machine, AllBelow, runs, Reached, numberedWithin, SameAnswers, both, agree}
 use Rattle.theory.proofs.Reflect.{says-false, says-as, says-and, says-every, decides-list, decides-bool}

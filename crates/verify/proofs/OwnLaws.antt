@@ -10,14 +10,14 @@ use lib.ListN.{length, take, drop, replicate, length-append}
 use lib.Seq.{take-at}
 use borrow.Author.Tests.{eq-eqb, ne-eqb, lt-ltb, le-ltb, le-leb}
 use Rattle.theory.specs.Tests.{pick, Says, holds, fails}
-use Rattle.theory.specs.Limits.{maxPairs, scratchLength, longestTable}
-use Rattle.theory.specs.Machine.{SameAnswers, agree}
+use Rattle.theory.specs.Limits.{scratchLength, longestTable}
+use Rattle.theory.specs.Machine.{SameAnswers}
 use Rattle.theory.specs.Orders.{Query}
 use Rattle.theory.specs.Construction.{sizesOf}
 use Rattle.theory.specs.Scratch.{pairsLength}
 use Rattle.theory.specs.Refusals.{passed, space-refused, mismatch-refused, answer-refused}
 use Rattle.theory.specs.Query.{Bytes, readQuery, queryRefusal}
-use Rattle.theory.specs.Table.{Table, numbersOf, writeTable, machineIn, sizesIn, tableRefusal}
+use Rattle.theory.specs.Table.{numbersOf, writeTable, machineIn, sizesIn, tableRefusal}
 use Rattle.theory.specs.Build.{Constructed, too-many, table, construct, Constructs, many-orderings, many-states, Outcome, refused, built, delivered, outcome, written, outputAfter, scratchAfter, zeroed}
 use Rattle.theory.specs.Verification.{SameSizes, sameSizes, mismatchRefusal, answerRefusal, suppliedRefusal, verifiedWith, verifyRefusal}
 use Rattle.theory.proofs.Reflect.{says-one, says-as, says-true, true-says, false-says, says-eqb, says-ltb}

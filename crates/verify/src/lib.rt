@@ -39,7 +39,7 @@ fn supplied(query: &[u8], ours: &[u8], table: &[u8], pairs: &mut [u8]) -> u8
     if sizes != refusals::PASSED {
         return sizes;
     }
-    if pairs::same_answers(ours, table, pairs) {
+    if comparison::same_answers(ours, table, pairs) {
         refusals::PASSED
     } else {
         refusals::ANSWER

@@ -1,0 +1,67 @@
+-- Two states hold the same orders exactly when their two held bytes are the same; and pairs, some after others, whose states hold the same.
+use Prim.Native.Nat.{ℕ, _+_, _<_, _≤_}
+use native.Mathlib.Omega.{arith}
+use mathlib.Core.Path.{_≡_, sym, _∙_, ap, subst}
+use mathlib.Core.Bool.{Bool, true, false, not, true≢false, false≢true}
+use mathlib.Core.Logic.{_≢_}
+use lib.Dec.{eqb}
+use Rattle.theory.specs.Tests.{Says, holds, fails}
+use Rattle.theory.specs.Query.{Bytes, byteAt}
+use Rattle.theory.specs.Table.{statesIn, producedIn, testedIn, heldIn, heldNumber, heldOrders}
+use Rattle.theory.proofs.Reflect.{says-as, says-eqb, says-ltb}
+use Rattle.theory.proofs.Faithfulness.{table-checked}
+use Rattle.theory.proofs.WordLaws.{bytes-orders, orders-word}
+use Rattle.marks.specs.Marks.{inMarks}
+use Rattle.pairs.specs.Pairs.{ourState, theirState, Comparable}
+use Rattle.comparison.specs.Alike.{AlikeFrom}
+use Rattle.pairs.proofs.TogetherLaws.{our-form}
+
+module _ {a b : Bytes} (c : Comparable a b) {x y : ℕ} (h : x < statesIn a) (k : y < statesIn b) where
+  same : producedIn b + testedIn b ≡ producedIn a + testedIn a
+  same = omega (arith, c .produced, c .tested)
+
+  few : producedIn a + testedIn a ≤ 16
+  few = omega (arith, our-form c .few-produced, our-form c .few-tested)
+
+  -- the first bytes, as they are read
+  module _ {l m : ℕ} (el : l ≡ byteAt (heldIn a x) 0) (em : m ≡ byteAt (heldIn b y) 0) (hl : l < 256) (hm : m < 256) where
+    numbers-same : heldOrders a x ≡ heldOrders b y → heldNumber a x ≡ heldNumber b y
+    numbers-same e = orders-word a b x y same few (table-checked a (c .ours) .words x h) (table-checked b (c .theirs) .words y k) (omega arith) (omega arith) e
+
+    -- where they differ, so do the orders ..
+    pub first-differ : l ≢ m → Says (heldOrders a x ≡ heldOrders b y) false
+    first-differ n = fails (λ e. let s = numbers-same e in n (omega arith))
+
+    -- .. and where they are the same, the second bytes decide
+    pub second-say : l ≡ m → {p q : ℕ} → p ≡ byteAt (heldIn a x) 1 → q ≡ byteAt (heldIn b y) 1 → Says (heldOrders a x ≡ heldOrders b y) (eqb p q)
+    second-say e {p} {q} ep eq =
+        says-as (λ s. bytes-orders a b x y same few (sym el ∙ e ∙ em) (sym ep ∙ s ∙ eq)) (λ o. let s = numbers-same o in omega arith) (says-eqb p q)
+
+module _ {a b m : Bytes} where
+  -- no pair that is in the set, one that is, and one that is not
+  pub alike-skip : {from to : ℕ} → ((i : ℕ) → from ≤ i → i < to → inMarks m i ≡ false) → AlikeFrom a b m from to
+  alike-skip none = record { alike = λ i f t k. absurd (false≢true (sym (none i f t) ∙ k)) }
+
+  pub alike-none : {from to : ℕ} → to ≤ from → AlikeFrom a b m from to
+  alike-none h = alike-skip (λ i f t. absurd (omega arith))
+
+  pub alike-one : {i : ℕ} → inMarks m i ≡ true → {r : Bool} → Says (heldOrders a (ourState i) ≡ heldOrders b (theirState i)) r → Says (AlikeFrom a b m i (i + 1)) r
+  alike-one {i} e =
+      says-as (λ s. record { alike = λ j f t k. let one : i ≡ j = omega arith in subst (λ n. heldOrders a (ourState n) ≡ heldOrders b (theirState n)) one s })
+      (λ all. all .alike i (omega arith) (omega arith) e)
+
+  pub alike-over : {i : ℕ} → inMarks m i ≡ false → Says (AlikeFrom a b m i (i + 1)) true
+  alike-over {i} e = holds (alike-skip (λ j f t. let one : j ≡ i = omega arith in ap (inMarks m) one ∙ e))
+
+  -- some pairs after others: they are alike too, or not
+  pub alike-more : {from mid to last : ℕ} → last ≡ to → AlikeFrom a b m from mid → {r : Bool} → Says (AlikeFrom a b m mid to) r → not r ≡ false → AlikeFrom a b m from last
+  alike-more {from} {mid} {to} {last} e s (fails n) z = absurd (true≢false z)
+  alike-more {from} {mid} {to} {last} e s (holds u) z = record { alike = λ i f t k. go i f t k (says-ltb i mid) }
+    where
+      go : (i : ℕ) → from ≤ i → i < last → inMarks m i ≡ true → {r : Bool} → Says (i < mid) r → heldOrders a (ourState i) ≡ heldOrders b (theirState i)
+      go i f t k (holds l) = s .alike i f l k
+      go i f t k (fails l) = u .alike i (omega arith) (omega arith) k
+
+  pub unlike : {from mid to last : ℕ} → from ≤ mid → to ≤ last → {r : Bool} → Says (AlikeFrom a b m mid to) r → not r ≡ true → Says (AlikeFrom a b m from last) false
+  unlike h l (holds u) z = absurd (false≢true z)
+  unlike h l (fails n) z = fails (λ all. n (record { alike = λ i f t. all .alike i (omega arith) (omega arith) }))

@@ -1,0 +1,2 @@
+-- What the functions of this crate promise, beside the theory and the pairs.
+pub mod Alike
