@@ -56,7 +56,7 @@ pub record Walking (a b m : Bytes) : Type 0 where
 unfoldable pub pairCount : Bytes → ℕ
 pairCount m = marksBelow maxPairs m
 
--- The pairs xs were put into the set m, which became m′. Those with a number below `bound` that were not there are counted: r of them at least, and where r is 0, none.
+-- The pairs xs were put into the set m, which became m′. At least r of them were not there, and where r is 0, none of those that were not there has a number below `bound`.
 pub record Added (bound : ℕ) (xs : List ℕ) (m m′ : Bytes) (r : ℕ) : Type 0 where
   pub long : length m′ ≡ length m
   pub keeps : (j : ℕ) → inMarks m j ≡ true → inMarks m′ j ≡ true
@@ -66,8 +66,8 @@ pub record Added (bound : ℕ) (xs : List ℕ) (m m′ : Bytes) (r : ℕ) : Type
   pub few : r ≤ maxPairs
   pub behind : r ≡ 0 → (j : ℕ) → j < bound → inMarks m′ j ≡ true → inMarks m j ≡ true
 
--- The pairs with the numbers from `from` to below `to` had their turn, from the set m to the set m′. Of the pairs that were added, r had no turn behind them; where r is 0,
--- none was added before `from`, and all that the pairs that had their turn lead to is there.
+-- The pairs with the numbers from `from` to below `to` had their turn, from the set m to the set m′. At least r pairs were added; where r is 0, none of them has a number
+-- below `from`, and all that the pairs that had their turn lead to is there.
 pub record Visited (a b : Bytes) (from to : ℕ) (m m′ : Bytes) (r : ℕ) : Type 0 where
   pub walking : Walking a b m′
   pub keeps : (j : ℕ) → inMarks m j ≡ true → inMarks m′ j ≡ true

@@ -38,6 +38,7 @@ answerRefusal q ours t = pick (agree maxPairs (sizesOf q) (numbersOf ours) (mach
 unfoldable pub suppliedRefusal : Query → Table → Bytes → ℕ
 suppliedRefusal q ours t = firstRefusal (tableRefusal t) (firstRefusal (mismatchRefusal q t) (answerRefusal q ours t))
 
+-- Where constructing is refused with 7 or 8, so is the trial.
 abbrev pub verifiedWith : Query → Constructed → Bytes → ℕ
 verifiedWith q (too-many n) t = n
 verifiedWith q (table ours n) t = suppliedRefusal q ours t
