@@ -23,6 +23,9 @@ pub mod PairLaws
 pub mod QueryLaws
 pub mod TableLaws
 pub mod MachineTable
+pub mod WalkImage
+pub mod SmallestTable
+pub mod MergingLaws
 pub mod LookupLaw
 pub mod Faithfulness
 pub mod BuildLaws

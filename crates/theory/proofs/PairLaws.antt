@@ -58,7 +58,7 @@ module _ {X Y : Type 0} (m : Machine X) (k : Machine Y) where
   runs-both [] x y = refl
   runs-both (s ∷ ss) x y = runs-both ss (m .next x s) (k .next y s)
 
-  decides-both : Decides (m .same) → Decides (k .same) → Decides (both m k .same)
+  pub decides-both : Decides (m .same) → Decides (k .same) → Decides (both m k .same)
   decides-both d e x y = says-as (λ t. ap₂ (λ a b. (a, b)) (t .0) (t .1)) (λ t. (ap (λ w. w .0) t, ap (λ w. w .1) t)) (says-and (d (x .0) (y .0)) (e (x .1) (y .1)))
 
   module _ (z : Sizes) where
@@ -66,7 +66,7 @@ module _ {X Y : Type 0} (m : Machine X) (k : Machine Y) where
     pub reached-both : (p : ℕ) (ss : List ℕ) → p < z .produced → AllBelow (z .sets) ss → Reached (both m k) z (runs m (m .start p) ss, runs k (k .start p) ss)
     reached-both p ss h b = record { order = p; produced = h; sets = ss; below = b; arrives = runs-both ss (m .start p) (k .start p) }
 
-    arrives-both : (x : X × Y) (r : Reached (both m k) z x) → (runs m (m .start (r .order)) (r .sets), runs k (k .start (r .order)) (r .sets)) ≡ x
+    pub arrives-both : (x : X × Y) (r : Reached (both m k) z x) → (runs m (m .start (r .order)) (r .sets), runs k (k .start (r .order)) (r .sets)) ≡ x
     arrives-both x r = sym (runs-both (r .sets) (m .start (r .order)) (k .start (r .order))) ∙ r .arrives
 
     -- The two machines answer alike exactly when the states of every reached pair hold the same.

@@ -9,6 +9,7 @@ pub mod Construction
 pub mod Refusals
 pub mod Query
 pub mod Table
+pub mod Merging
 pub mod Scratch
 pub mod Build
 pub mod Lookups

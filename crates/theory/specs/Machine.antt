@@ -43,6 +43,15 @@ module _ {X : Type 0} (m : Machine X) where
   unfoldable pub numberedWithin : ℕ → Sizes → List X
   numberedWithin cap z = closure (m .same) (λ x. map (m .next x) (upFrom zero (z .sets))) cap (map (m .start) (upFrom zero (z .produced)))
 
+module _ {X : Type 0} (z : Sizes) (m : Machine X) where
+  -- Two states are alike: no order lookup after any run of sets tells them apart.
+  abbrev pub Alike : X → X → Type 0
+  Alike x y = (ss : List ℕ) → AllBelow (z .sets) ss → m .held (runs m x ss) ≡ m .held (runs m y ss)
+
+  -- A machine is reduced where no two of the states that are reached are alike.
+  abbrev pub Reduced : Type 0
+  Reduced = (x y : X) → Reached m z x → Reached m z y → Alike x y → x ≡ y
+
 module _ {X Y : Type 0} where
   -- Two machines answer alike: from the start of every produced order and through every run of sets, both hold the same orders.
   abbrev pub SameAnswers : Sizes → Machine X → Machine Y → Type 0
