@@ -45,7 +45,7 @@ constructing-refused b {work} {d} {k} {r} l f a = go (construct (readQuery b)) (
     go (table t n) e = absurd (f (ap (λ (x : Constructed). x .refusal) e))
 
 -- where constructing is not refused, the scratch has the table that was constructed
-pub holding : (b : Bytes) {work : Bytes} {r : Constructed} → queryRefusal b ≡ passed → Leaves (construct (readQuery b)) work r → r .refusal ≡ passed → Holding b work (r .states) (r .nodes)
+pub holding : (b : Bytes) {work : Bytes} {r : Constructed} → queryRefusal b ≡ passed → Leaves (construct (readQuery b)) work r → r .refusal ≡ passed → Holding b work (r .rows) (r .nodes)
 holding b {work} {r} c l e =
     let t = granted-table b (ap (λ (k : Constructed). k .refusal) (sym (l .answer)) ∙ e) in
     let same : r ≡ construction.answerOf (table (t .0) (t .1)) = l .answer ∙ ap construction.answerOf (t .2) in
@@ -54,7 +54,7 @@ holding b {work} {r} c l e =
       contents = t .0;
       constructed = t .2 ∙ ap (table (t .0)) (sym (ap (λ (k : Constructed). k .nodes) same));
       stored = l .stored (t .0) (t .1) (t .2);
-      count = sym (ap (λ (k : Constructed). k .states) same);
+      count = sym (ap (λ (k : Constructed). k .rows) same);
     }
 
 module _ {b work : Bytes} {q n : ℕ} (h : Holding b work q n) where

@@ -59,7 +59,7 @@ fn construct_into(query: &[u8], work: &mut [u8], output: &mut [u8]) -> Built
     if refusal != PASSED {
         return refused(refusal);
     }
-    deliver(query, work, made.states, made.nodes, output)
+    deliver(query, work, made.rows, made.nodes, output)
 }
 
 // The same, and the work memory cleared behind it.

@@ -1,12 +1,13 @@
 -- Bytes written at a place, for any place and any number of bytes: one write directly behind another is one write of both.
-use Prim.Native.Nat.{ℕ, _+_, _≤_}
+use Prim.Native.Nat.{ℕ, _+_, _-_, _≤_, _<_}
 use native.Mathlib.Nat.{zero-add, add-zero}
+use native.Mathlib.Numerals.{add-one}
 use native.Mathlib.Omega.{arith}
 use mathlib.Core.Path.{_≡_, refl, sym, _∙_, ap, ap₂}
-use mathlib.Core.List.{[], _++_, append-assoc, append-nil}
-use lib.ListN.{length, take, drop, take-append-drop, length-append, length-drop, drop-of-length-le}
-use lib.Seq.{paste, length-take-le, take-length, take-at, drop-at, take-append-le, drop-append-le, drop-append-add, drop-drop}
-use Rattle.theory.specs.Query.{Bytes}
+use mathlib.Core.List.{[], _∷_, _++_, append-assoc, append-nil}
+use lib.ListN.{length, take, drop, set, take-append-drop, length-append, length-drop, drop-of-length-le, List·getD-append}
+use lib.Seq.{paste, length-take-le, take-length, take-at, drop-at, take-append-le, drop-append-le, drop-append-add, drop-drop, getD-take, getD-drop, set-split}
+use Rattle.theory.specs.Query.{Bytes, byteAt}
 use Rattle.byte_rows.specs.Placed.{placed}
 
 -- what `copy` leaves
@@ -67,6 +68,42 @@ part-before base n at x d h l =
     ∙ sym (front-part base n (take at d) (drop at d) fits)
     ∙ ap (λ k. take n (drop base k)) (take-append-drop at d)
 
+pub byte-before : (k at : ℕ) (x d : Bytes) → k < at → at ≤ length d → byteAt (placed at x d) k ≡ byteAt d k
+unfolding placed
+byte-before k at x d h l = List·getD-append (take at d) (x ++ drop (at + length x) d) 0 k (omega (arith, length-take-le at d l)) ∙ getD-take at d k 0 h
+
 pub part-placed : (at n : ℕ) (x d : Bytes) → length x ≡ n → at ≤ length d → take n (drop at (placed at x d)) ≡ x
 unfolding placed
 part-placed at n x d e l = ap (take n) (drop-at (take at d) (x ++ drop (at + length x) d) at (length-take-le at d l)) ∙ take-at x (drop (at + length x) d) n e
+
+-- what lies behind the bytes written is kept: all of it, a part of it, and one byte
+drop-behind : (base at : ℕ) (x d : Bytes) → at + length x ≤ base → at ≤ length d → drop base (placed at x d) ≡ drop base d
+unfolding placed
+drop-behind base at x d h l =
+    let front = take at d ++ x in
+    let back = drop (at + length x) d in
+    let long : length front ≡ at + length x = length-append (take at d) x ∙ ap (λ k. k + length x) (length-take-le at d l) in
+    let k = base - (at + length x) in
+    let sum : length front + k ≡ base = omega arith in
+    let whole : at + length x + k ≡ base = omega arith in
+    ap₂ drop (sym sum) (sym (append-assoc (take at d) x back)) ∙ drop-append-add front back k ∙ drop-drop k (at + length x) d ∙ ap (λ j. drop j d) whole
+
+pub part-behind : (base n at : ℕ) (x d : Bytes) → at + length x ≤ base → at ≤ length d → take n (drop base (placed at x d)) ≡ take n (drop base d)
+part-behind base n at x d h l = ap (take n) (drop-behind base at x d h l)
+
+pub byte-behind : (k at : ℕ) (x d : Bytes) → at + length x ≤ k → at ≤ length d → byteAt (placed at x d) k ≡ byteAt d k
+byte-behind k at x d h l =
+    ap (byteAt (placed at x d)) (sym (add-zero k))
+    ∙ sym (getD-drop k (placed at x d) 0 0)
+    ∙ ap (λ b. byteAt b 0) (drop-behind k at x d h l)
+    ∙ getD-drop k d 0 0
+    ∙ ap (byteAt d) (add-zero k)
+
+-- one byte stored is one byte written; directly behind what was written, it is one byte more
+pub placed-one : (k v : ℕ) (d : Bytes) → k < length d → set d k v ≡ placed k (v ∷ []) d
+unfolding placed
+placed-one k v d h = rw add-one (set-split d k v h)
+
+pub placed-store : (at next : ℕ) (x : Bytes) (v : ℕ) (d : Bytes) → at + length x ≡ next → next < length d → set (placed at x d) next v ≡ placed at (x ++ (v ∷ [])) d
+placed-store at next x v d e h =
+    placed-one next v (placed at x d) (rw (placed-length at x d (omega arith)) h) ∙ placed-more at next x (v ∷ []) d e (omega arith)

@@ -10,7 +10,7 @@ use Rattle.theory.specs.Construction.{Marks, nodes, states}
 use Rattle.theory.specs.Query.{Bytes, rowAt, readQuery}
 use Rattle.theory.specs.Table.{Table, number}
 use Rattle.theory.specs.Scratch.{successorsPart}
-use Rattle.theory.specs.Build.{queryTable}
+use Rattle.theory.specs.Build.{statesTable}
 use Rattle.nodes.specs.Nodes.{Prepared, NodesAre}
 
 -- A set of nodes as 32 bytes, bit i for node i, the rest 0.
@@ -22,7 +22,7 @@ pub record Ready (b : Bytes) (array : List ℕ) (count wanted n : ℕ) : Type 0 
   pub prepared : Prepared b wanted n
   pub listed : NodesAre b array count
 
--- The query's nodes, its states and its table.
+-- The query's nodes, its states, and the table of these states before merging.
 abbrev pub nodesOf : Bytes → List Order
 nodesOf b = nodes (readQuery b)
 
@@ -30,7 +30,7 @@ abbrev pub statesOf : Bytes → List Marks
 statesOf b = states (readQuery b) (nodesOf b)
 
 abbrev pub contentsOf : Bytes → Table
-contentsOf b = queryTable (readQuery b)
+contentsOf b = statesTable (readQuery b)
 
 -- The numbered states come first in the work memory, 32 bytes each; their successors are in a part of their own, a row of S for each.
 abbrev pub stateRows : ℕ → Bytes → List Bytes

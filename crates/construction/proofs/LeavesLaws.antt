@@ -1,21 +1,27 @@
--- What constructing leaves: the refusals 7 and 8, or the query's table in the scratch.
+-- What constructing leaves: the refusals 7 and 8, or the query's table in the scratch; and what merging asks.
 use Prim.Native.Nat.{ℕ, _<_, _≤_}
 use native.Mathlib.Omega.{arith}
-use mathlib.Core.Path.{_≡_, refl, sym, ap, subst}
+use mathlib.Core.Path.{_≡_, refl, sym, _∙_, ap, subst}
 use lib.ListN.{length}
 use borrow.Author.Tests.{lt-ltb, le-ltb}
 use Rattle.theory.specs.Limits.{maxNodes, maxStates}
 use Rattle.theory.specs.Refusals.{passed, orderings-refused, states-refused}
 use Rattle.theory.specs.Orders.{Query}
-use Rattle.theory.specs.Query.{Bytes, readQuery}
-use Rattle.theory.specs.Table.{Table}
+use Rattle.theory.specs.Construction.{sizesOf, construction}
+use Rattle.theory.specs.Query.{Bytes, producedCount, setCount, readQuery}
+use Rattle.theory.specs.Table.{Table, tableOf}
 use Rattle.theory.specs.Scratch.{Stored}
 use Rattle.theory.specs.Build.{too-many, table, queryTable, construct, Constructs, many-orderings, many-states, its-table}
 use Rattle.theory.specs.Build as theory
+use Rattle.theory.proofs.QueryLaws.{produced-count, set-count}
 use Rattle.theory.proofs.BuildLaws.{construct-means}
+use Rattle.theory.proofs.MergedRows.{rows-in-sequence}
+use Rattle.theory.proofs.ConstructionLaws.{Constructible, states-known, states-sized, states-numbered}
+use Rattle.theory.proofs.DemandThree.{query-limited}
+use Rattle.merging.specs.Rows.{Mergeable}
 use Rattle.closure.specs.Work.{nodesOf, statesOf, contentsOf}
 use Rattle.construction.specs.declared.Constructed.{Constructed}
-use Rattle.construction.specs.Constructed.{answerOf, Leaves}
+use Rattle.construction.specs.Constructed.{answerOf, Leaves, StatesStored}
 
 -- a refusal leaves no table
 leaves-refused : {o : theory.Constructed} {work : Bytes} {r : Constructed} (n : ℕ) → o ≡ too-many n → r ≡ answerOf (too-many n) → Leaves o work r
@@ -36,13 +42,13 @@ module _ (b : Bytes) where
     unfolding construct
     table-made h = rw (le-ltb maxNodes (length (nodesOf b)) few, le-ltb maxStates (length (statesOf b)) h, construct)
 
-    pub table-left : {work : Bytes} {r : Constructed} → length (statesOf b) ≤ maxStates → Stored (contentsOf b) work → r ≡ answerOf (table (contentsOf b) (length (nodesOf b))) →
+    pub table-left : {work : Bytes} {r : Constructed} → length (statesOf b) ≤ maxStates → Stored (queryTable (readQuery b)) work → r ≡ answerOf (table (queryTable (readQuery b)) (length (nodesOf b))) →
         Leaves (construct (readQuery b)) work r
     table-left {work} {r} h s a =
         subst (λ o. Leaves o work r) (sym (table-made h)) (record { answer = a; stored = λ t n e. subst (λ k. Stored k work) (ap contents e) s })
       where
         contents : theory.Constructed → Table
-        contents (too-many n) = contentsOf b
+        contents (too-many n) = queryTable (readQuery b)
         contents (table t n) = t
 
 -- where the answer has no refusal, there is a table
@@ -53,3 +59,23 @@ constructed (its-table _ _) e = (_, _, refl)
 
 pub granted-table : (b : Bytes) → answerOf (construct (readQuery b)) .refusal ≡ passed → (t : Table) × (n : ℕ) × (construct (readQuery b) ≡ table t n)
 granted-table b = constructed (construct-means (readQuery b))
+
+-- the table of the states can be merged
+pub mergeable : {b work : Bytes} {q n p s : ℕ} → StatesStored b work q n → p ≡ producedCount b → s ≡ setCount b → Mergeable (contentsOf b) work q p s
+unfolding tableOf
+mergeable {b} k ep es =
+    let q = readQuery b in
+    let limits = query-limited b (k .checked) in
+    let within : Constructible q = record { few-nodes = omega (arith, k .node-count, k .few-nodes); few-states = omega (arith, k .state-count, k .few-states) } in
+    record {
+      unmerged =
+          record {
+            sized = states-sized q limits within;
+            numbered = states-numbered q limits within;
+            stored = k .stored;
+            states = k .state-count;
+            set-count = set-count b ∙ sym es;
+          };
+      produced-count = produced-count b ∙ sym ep;
+      sequence = rows-in-sequence (construction q (nodesOf b)) (sizesOf q) limits (states-known q within);
+    }

@@ -16,12 +16,12 @@ ghost use Rattle.theory.specs.Refusals.{passed};
 ghost use Rattle.theory.specs.Query.{readQuery, queryRefusal};
 ghost use Rattle.theory.specs.Build.{too-many, construct};
 ghost use Rattle.closure.specs.Work.{Ready};
-ghost use Rattle.construction.specs.Constructed.{answerOf, Leaves};
+ghost use Rattle.construction.specs.Constructed.{answerOf, Leaves, StatesStored};
 
-// The refusal, or 0; and the counts of states and nodes, which are 0 on refusal.
+// The refusal, or 0; and the counts of rows and nodes, which are 0 on refusal.
 pub struct Constructed {
     pub refusal: u8,
-    pub states: usize,
+    pub rows: usize,
     pub nodes: usize,
 }
 
@@ -30,12 +30,27 @@ fn refused(n: u8) -> Constructed
 {
     Constructed {
         refusal: n,
-        states: 0,
+        rows: 0,
         nodes: 0,
     }
 }
 
-// The states, or 8; then the starts and the held words are stored behind the successors.
+// States that are alike share a row. The nodes are counted before that.
+fn merged(query: &[u8], work: &mut [u8], q: usize, n: usize) -> Constructed
+    requires { ⌜ StatesStored (now query) (now work) q n ⌝ }
+    ensures { λ r. ⌜ Leaves (construct (readQuery (now (query .entry)))) (now (work .exit)) r × (length (now (work .exit)) ≡ length (now (work .entry))) ⌝ }
+{
+    let produced = query::produced(query) as usize;
+    let sets = query::sets(query) as usize;
+    let rows = merging::merge(work, q, produced, sets);
+    Constructed {
+        refusal: PASSED,
+        rows: rows,
+        nodes: n,
+    }
+}
+
+// The states, or 8; then the starts and the held words are stored behind the successors, and the rows merged.
 fn with_nodes(
     query: &[u8],
     nodes: &[u16],
@@ -54,11 +69,7 @@ fn with_nodes(
     }
     byte_rows::copy(work, STARTS_PART, &starts);
     held::store(query, nodes, n, work, q);
-    Constructed {
-        refusal: PASSED,
-        states: q,
-        nodes: n,
-    }
+    merged(query, work, q, n)
 }
 
 // The nodes, or 7; then the states.

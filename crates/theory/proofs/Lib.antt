@@ -26,6 +26,7 @@ pub mod MachineTable
 pub mod WalkImage
 pub mod SmallestTable
 pub mod MergingLaws
+pub mod MergedRows
 pub mod LookupLaw
 pub mod Faithfulness
 pub mod BuildLaws
@@ -34,3 +35,4 @@ pub mod DemandThree
 pub mod WordLaws
 pub mod VerificationLaws
 pub mod SuppliedTables
+pub mod FewestRows

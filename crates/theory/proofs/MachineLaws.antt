@@ -111,3 +111,6 @@ module _ {m : Machine ℕ} {z : Sizes} {n : ℕ} (i : Inside m z n) where
 
   pub inside-after : (p : ℕ) (ss : List ℕ) → p < z .produced → AllBelow (z .sets) ss → runs m (m .start p) ss < n
   inside-after p ss h b = inside-runs ss b (m .start p) (i .start-below p h)
+
+  pub reached-inside : (x : ℕ) → Reached m z x → x < n
+  reached-inside x r = subst (λ y. y < n) (r .arrives) (inside-after (r .order) (r .sets) (r .produced) (r .below))

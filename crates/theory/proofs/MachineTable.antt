@@ -7,13 +7,14 @@ use mathlib.Core.List.{List, [], _∷_, map, List·Memᴰ, List·Memᴰ·head, M
 use lib.ListN.{length, getD, length-map}
 use Rattle.theory.specs.Tests.{Decides, position, upFrom}
 use Rattle.theory.specs.Limits.{maxStates, maxProduced, maxTested, maxSets}
-use Rattle.theory.specs.Machine.{Sizes, Machine, AllBelow, runs, Reached, SameAnswers}
+use Rattle.theory.specs.Machine.{Sizes, Machine, Reached, SameAnswers}
 use Rattle.theory.specs.Table.{Table, Sized, Numbered, tableOf, countsOf, numbersOf, machineIn, writeTable}
 use Rattle.theory.proofs.PositionLaws.{position-bound, position-reads}
 use Rattle.theory.proofs.ListLaws.{member-getD, member-upFrom}
 use Rattle.theory.proofs.RowLaws.{getD-map}
 use Rattle.theory.proofs.RangeLaws.{entry-of, entry-count}
-use Rattle.theory.proofs.MachineLaws.{below-tail, reached-start, reached-next, reached-runs, Inside, inside-after}
+use Rattle.theory.proofs.MachineLaws.{reached-start, reached-next, Inside, reached-inside}
+use Rattle.theory.proofs.PairLaws.{same-sym, Covers, covers-same}
 use Rattle.theory.proofs.TableLaws.{written-start, written-successor, held-back}
 
 -- The sizes are within their limits.
@@ -108,19 +109,13 @@ module _ {X : Type 0} (m : Machine X) (z : Sizes) (xs : List X) where
     unfolding tableOf
     held-number x r = getD-map (λ y. m .held y) xs (number x) [] x (number-below x r) ∙ ap (λ y. m .held y) (number-reads x x r)
 
-    -- a run of the numbers arrives at the number of the state at which the machine arrives
-    run-number : (ss : List ℕ) → AllBelow (z .sets) ss → (x : X) → Reached m z x → runs (numbersOf numbered) (number x) ss ≡ number (runs m x ss)
-    run-number [] b x r = refl
-    run-number (s ∷ ss) b x r =
-        let h = b s (List·Memᴰ·head refl) in
-        ap (λ n. runs (numbersOf numbered) n ss) (successor-number x s r h) ∙ run-number ss (below-tail (z .sets) b) (m .next x s) (reached-next m z x s r h)
+    -- Each state goes to its number: the table's numbers answer as the machine does, and are reduced where it is.
+    pub numbers-cover : Covers z m (numbersOf numbered) number
+    numbers-cover =
+        record { starts = λ p h. sym (start-number p h); successors = λ x s r h. sym (successor-number x s r h); orders = λ x r. sym (held-number x r) }
 
-    -- The table's numbers answer as the machine does.
     pub numbers-answer : SameAnswers z (numbersOf numbered) m
-    numbers-answer p ss h b =
-        let r = reached-start m z p h in
-        ap (numbersOf numbered .held) (ap (λ n. runs (numbersOf numbered) n ss) (start-number p h) ∙ run-number ss b (m .start p) r)
-        ∙ held-number (runs m (m .start p) ss) (reached-runs m z ss b (m .start p) r)
+    numbers-answer = same-sym z m (numbersOf numbered) (covers-same m (numbersOf numbered) numbers-cover)
 
 module _ (t : Table) (sized : Sized t) (closed : Numbered t) where
   -- the table's numbers stay below the count of states
@@ -138,15 +133,14 @@ module _ (t : Table) (sized : Sized t) (closed : Numbered t) where
   pub numbers-wide : (state : ℕ) → state < t .stateCount → length (numbersOf t .held state) ≡ t .producedCount + t .testedCount
   numbers-wide state h = sized .held-width (getD (t .held) state []) (member-getD (t .held) state [] (subst (λ n. state < n) (sym (sized .held-count)) h))
 
-  -- a run of the bytes arrives where a run of the numbers does
-  run-bytes : (ss : List ℕ) → AllBelow (t .setCount) ss → (state : ℕ) → state < t .stateCount → runs (machineIn (writeTable t)) state ss ≡ runs (numbersOf t) state ss
-  run-bytes [] b state h = refl
-  run-bytes (s ∷ ss) b state h =
-      ap (λ n. runs (machineIn (writeTable t)) n ss) (written-successor t sized state s h)
-      ∙ run-bytes ss (below-tail (t .setCount) b) (numbersOf t .next state s) (numbers-inside .next-below state s h (b s (List·Memᴰ·head refl)))
+  -- Each number goes to itself in the bytes: they answer as the numbers do, and are reduced where these are.
+  pub bytes-cover : Covers (countsOf t) (numbersOf t) (machineIn (writeTable t)) (λ x. x)
+  bytes-cover =
+      record {
+        starts = λ p h. sym (written-start t sized p h);
+        successors = λ x s r h. sym (written-successor t sized x s (reached-inside numbers-inside x r));
+        orders = λ x r. sym (held-back t sized x (reached-inside numbers-inside x r));
+      }
 
-  -- The bytes answer as the numbers do.
   pub bytes-answer : SameAnswers (countsOf t) (machineIn (writeTable t)) (numbersOf t)
-  bytes-answer p ss h b =
-      ap (machineIn (writeTable t) .held) (ap (λ n. runs (machineIn (writeTable t)) n ss) (written-start t sized p h) ∙ run-bytes ss b (numbersOf t .start p) (numbers-inside .start-below p h))
-      ∙ held-back t sized (runs (numbersOf t) (numbersOf t .start p) ss) (inside-after numbers-inside p ss h b)
+  bytes-answer = same-sym (countsOf t) (numbersOf t) (machineIn (writeTable t)) (covers-same (numbersOf t) (machineIn (writeTable t)) bytes-cover)

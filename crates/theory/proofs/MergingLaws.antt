@@ -1,24 +1,24 @@
--- Merging: a state's class is the first state that it is like, exactly; the merged machine answers as the table does, and it is reduced.
+-- Classes: a state's class is the first state that it is like, exactly; the merged machine answers as the table does, and it is reduced.
 use Prim.Native.Nat.{ℕ, zero, suc, _≤_, _<_, zero-le, suc-le-suc}
 use native.Mathlib.Nat.{not-suc-le-zero, le-of-suc-le-suc, lt-of-le-of-lt}
 use native.Mathlib.Omega.{arith}
 use mathlib.Core.Path.{_≡_, refl, sym, _∙_, ap, subst}
-use mathlib.Core.Logic.{_↔_}
+use mathlib.Core.Logic.{_↔_, inr, ⊎-elim}
 use mathlib.Core.Bool.{Bool, true, false, false≢true}
 use mathlib.Core.List.{List, [], _∷_, map, List·Memᴰ, List·Memᴰ·head, List·Memᴰ·tail}
 use lib.ListN.{length, getD}
 use Rattle.theory.specs.Tests.{Says, position, upFrom}
-use Rattle.theory.specs.Limits.{maxPairs}
+use Rattle.theory.specs.Limits.{maxStates, maxPairs}
 use Rattle.theory.specs.Machine.{Sizes, Machine, AllBelow, runs, Reached, Alike, Reduced, SameAnswers}
-use Rattle.theory.specs.Table.{Table, Sized, Numbered, countsOf, numbersOf}
-use Rattle.theory.specs.Merging.{enteredAt, oneEntry, alike, classes, mergedOf}
-use Rattle.theory.proofs.Reflect.{says-true, true-says, false-says, says-one, says-as, says-and, decides-list, decides-bool, decides-number}
-use Rattle.theory.proofs.ListLaws.{upFrom-length, upFrom-getD, member-upFrom}
+use Rattle.theory.specs.Table.{Table, Sized, Numbered, tableOf, countsOf, numbersOf}
+use Rattle.theory.specs.Merging.{enteredAt, oneEntry, alike, classes, mergedOf, rowsOf, walkedTable, mergeTable}
+use Rattle.theory.proofs.Reflect.{says-true, true-says, false-says, says-one, says-as, says-and, says-or, says-eqb, decides-list, decides-bool, decides-number}
+use Rattle.theory.proofs.ListLaws.{upFrom-length, upFrom-getD, member-upFrom, upFrom-member}
 use Rattle.theory.proofs.RowLaws.{all-cons, entries}
 use Rattle.theory.proofs.RangeLaws.{entry-of, entry-count}
-use Rattle.theory.proofs.MachineLaws.{below-nil, below-tail, Inside, inside-runs, inside-after}
+use Rattle.theory.proofs.MachineLaws.{below-nil, below-tail, numbered-exactly, numbered-few, Inside, inside-runs, reached-inside}
 use Rattle.theory.proofs.PairLaws.{agree-says, pairs-few, Covers, covers-same}
-use Rattle.theory.proofs.MachineTable.{numbers-inside}
+use Rattle.theory.proofs.MachineTable.{Enumerated, numbers-inside, numbers-wide}
 
 -- alike is an equivalence, and taking a set keeps it
 module _ {X : Type 0} (z : Sizes) (m : Machine X) where
@@ -92,12 +92,14 @@ module _ (t : Table) (sized : Sized t) (closed : Numbered t) where
   pub says-alike : (x y : ℕ) → x < n → y < n → Says (Alike z m x y) (alike z m x y)
   unfolding alike
   says-alike x y h k =
-      says-as
+      says-as (λ s. ⊎-elim (λ e. subst (Alike z m x) e (alike-refl z m x)) (λ a. a) s) inr
+      (says-or (says-eqb x y)
+      (says-as
       (λ s ss b. ap (m .held) (sym (entered-runs m x x ss)) ∙ s .1 0 ss (omega arith) b ∙ ap (m .held) (entered-runs m y y ss))
       (λ a. (a [] (below-nil (z .sets)), λ p ss l b. ap (m .held) (entered-runs m x x ss) ∙ a ss b ∙ ap (m .held) (sym (entered-runs m y y ss))))
       (says-and (decides-list decides-bool (m .held x) (m .held y))
       (agree-says (enteredAt m x) (enteredAt m y) (oneEntry z) decides-number decides-number maxPairs
-      (pairs-few (entered-inside x h) (entered-inside y k) (sized .few-states) (sized .few-states) decides-number decides-number)))
+      (pairs-few (entered-inside x h) (entered-inside y k) (sized .few-states) (sized .few-states) decides-number decides-number)))))
 
   abbrev class : ℕ → ℕ
   class x = getD (classes z m n) x 0
@@ -168,11 +170,11 @@ module _ (t : Table) (sized : Sized t) (closed : Numbered t) where
       record {
         starts = λ p h. refl;
         successors = λ x s r h.
-            let l = subst (λ y. y < n) (r .arrives) (inside-after inside (r .order) (r .sets) (r .produced) (r .below)) in
+            let l = reached-inside inside x r in
             class-same (m .next x s) (m .next (class x) s) (inside .next-below x s l h) (inside .next-below (class x) s (class-below x l) h)
             (alike-next z m x (class x) s h (class-alike x l));
         orders = λ x r.
-            let l = subst (λ y. y < n) (r .arrives) (inside-after inside (r .order) (r .sets) (r .produced) (r .below)) in
+            let l = reached-inside inside x r in
             alike-held z m x (class x) (class-alike x l);
       }
 
@@ -198,9 +200,6 @@ module _ (t : Table) (sized : Sized t) (closed : Numbered t) where
       let k = inside .start-below (r .order) (r .produced) in
       subst (λ y. class y ≡ y) (r .arrives) (own-class (r .sets) (r .below) (class (m .start (r .order))) (class-below (m .start (r .order)) k) (class-again (m .start (r .order)) k))
 
-  reached-below : (x : ℕ) → Reached (mergedOf t) z x → x < n
-  reached-below x r = subst (λ y. y < n) (r .arrives) (inside-after merged-inside (r .order) (r .sets) (r .produced) (r .below))
-
   -- a run of the merged machine from a state's class arrives at the class of the state at which the table arrives
   merged-runs : (ss : List ℕ) → AllBelow (z .sets) ss → (x : ℕ) → x < n → runs (mergedOf t) (class x) ss ≡ class (runs m x ss)
   merged-runs [] b x h = refl
@@ -221,8 +220,26 @@ module _ (t : Table) (sized : Sized t) (closed : Numbered t) where
   -- It is reduced: no two states that are reached are alike.
   pub merged-reduced : Reduced z (mergedOf t)
   merged-reduced x y r u a =
-      let h = reached-below x r in
-      let k = reached-below y u in
+      let h = reached-inside merged-inside x r in
+      let k = reached-inside merged-inside y u in
       let e = reached-class x r in
       let f = reached-class y u in
       sym e ∙ class-same x y h k (λ ss b. sym (merged-held ss b x h e) ∙ a ss b ∙ merged-held ss b y k f) ∙ f
+
+  -- Its rows, by number: each state that is reached, once, and at most as many as the table has states.
+  rows-fit : length (upFrom 0 n) ≤ maxStates
+  rows-fit = rw upFrom-length (sized .few-states)
+
+  pub rows-known : Enumerated (mergedOf t) z (rowsOf t)
+  rows-known =
+      let few = numbered-few (mergedOf t) z decides-number maxStates (upFrom 0 n) rows-fit (λ x r. let h = reached-inside merged-inside x r in upFrom-member 0 n (omega arith) (omega arith)) in
+      record {
+        decides = decides-number;
+        few = few;
+        exactly = numbered-exactly (mergedOf t) z decides-number maxStates few;
+        wide = λ x r. numbers-wide t sized closed x (reached-inside merged-inside x r);
+      }
+
+  pub merge-is : mergeTable t ≡ tableOf (mergedOf t) z (rowsOf t)
+  unfolding mergeTable walkedTable
+  merge-is = refl

@@ -8,7 +8,7 @@ use mathlib.Core.List.{List, [], _∷_, map, List·Memᴰ, List·Memᴰ·head, L
 use lib.ListN.{length}
 use Rattle.theory.specs.Tests.{Says, Decides, upFrom, every, sameList}
 use Rattle.theory.specs.Limits.{maxStates, maxPairs}
-use Rattle.theory.specs.Machine.{Sizes, Machine, AllBelow, runs, Reached, numberedWithin, SameAnswers, both, agree}
+use Rattle.theory.specs.Machine.{Sizes, Machine, AllBelow, runs, Reached, numberedWithin, Alike, Reduced, SameAnswers, both, agree}
 use Rattle.theory.proofs.Reflect.{says-false, says-as, says-and, says-every, decides-list, decides-bool}
 use Rattle.theory.proofs.ListLaws.{upFrom-member}
 use Rattle.theory.proofs.RangeLaws.{entry-count}
@@ -35,12 +35,32 @@ module _ {X Y : Type 0} {z : Sizes} (m : Machine X) (k : Machine Y) {f : X → Y
       let h = b s (List·Memᴰ·head refl) in
       covers-runs ss (below-tail (z .sets) b) (m .next x s) (reached-next m z x s r h) ∙ ap (λ y. runs k y ss) (c .successors x s r h)
 
+  -- after every run, such a machine holds what the second does
+  pub covers-held : (x : X) → Reached m z x → (ss : List ℕ) → AllBelow (z .sets) ss → m .held (runs m x ss) ≡ k .held (runs k (f x) ss)
+  covers-held x r ss b = c .orders (runs m x ss) (reached-runs m z ss b x r) ∙ ap (k .held) (covers-runs ss b x r)
+
   -- Such a machine answers as the second does.
   pub covers-same : SameAnswers z m k
-  covers-same p ss h b =
-      let r = reached-start m z p h in
-      c .orders (runs m (m .start p) ss) (reached-runs m z ss b (m .start p) r)
-      ∙ ap (k .held) (covers-runs ss b (m .start p) r ∙ ap (λ y. runs k y ss) (c .starts p h))
+  covers-same p ss h b = covers-held (m .start p) (reached-start m z p h) ss b ∙ ap (λ y. k .held (runs k y ss)) (c .starts p h)
+
+  -- Where it is reduced, so is the second.
+  pub covers-reduced : Reduced z m → Reduced z k
+  covers-reduced reduced x y r u a =
+      let v = runs m (m .start (r .order)) (r .sets) in
+      let w = runs m (m .start (u .order)) (u .sets) in
+      let reached = reached-runs m z (r .sets) (r .below) (m .start (r .order)) (reached-start m z (r .order) (r .produced)) in
+      let reached′ = reached-runs m z (u .sets) (u .below) (m .start (u .order)) (reached-start m z (u .order) (u .produced)) in
+      let goes = covers-arrives x r in
+      let goes′ = covers-arrives y u in
+      sym goes
+      ∙ ap f
+      (reduced v w reached reached′
+      (λ ss b. covers-held v reached ss b ∙ ap (λ n. k .held (runs k n ss)) goes ∙ a ss b ∙ sym (covers-held w reached′ ss b ∙ ap (λ n. k .held (runs k n ss)) goes′)))
+      ∙ goes′
+    where
+      covers-arrives : (x : Y) (r : Reached k z x) → f (runs m (m .start (r .order)) (r .sets)) ≡ x
+      covers-arrives x r =
+          covers-runs (r .sets) (r .below) (m .start (r .order)) (reached-start m z (r .order) (r .produced)) ∙ ap (λ n. runs k n (r .sets)) (c .starts (r .order) (r .produced)) ∙ r .arrives
 
 -- where a test does not pass at each element, there is one at which it fails
 every-fails : {A : Type 0} (test : A → Bool) (l : List A) → every test l ≡ false → (x : A) × List·Memᴰ x l × (test x ≡ false)

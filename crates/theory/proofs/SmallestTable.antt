@@ -66,7 +66,7 @@ module _ {X : Type 0} (z : Sizes) (m : Machine X) (reduced : Reduced z m) (k : M
 
 module _ {A B : Type 0} where
   -- functions that agree on a list give the same list
-  map-members : (g h : A → B) (l : List A) → ((x : A) → List·Memᴰ x l → g x ≡ h x) → map g l ≡ map h l
+  pub map-members : (g h : A → B) (l : List A) → ((x : A) → List·Memᴰ x l → g x ≡ h x) → map g l ≡ map h l
   map-members g h [] e = refl
   map-members g h (x ∷ l) e = ap₂ _∷_ (e x (List·Memᴰ·head refl)) (map-members g h l (λ y i. e y (List·Memᴰ·tail i)))
 

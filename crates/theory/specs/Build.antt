@@ -15,17 +15,21 @@ use Rattle.theory.specs.Construction.{Node, State, nodes, states, sizesO
 use Rattle.theory.specs.Refusals.{passed, orderings-refused, states-refused, space-refused}
 use Rattle.theory.specs.Query.{Bytes, readQuery, queryRefusal}
 use Rattle.theory.specs.Table.{Table, tableOf, writeTable}
+use Rattle.theory.specs.Merging.{mergeTable}
 
 -- Constructing ends with a refusal's number, 7 or 8, or with a table and the count of nodes.
 pub data Constructed : Type 0 where
   too-many : ℕ → Constructed
   table : Table → ℕ → Constructed
 
--- The table of a query.
-abbrev pub queryTable : Query → Table
-queryTable q = tableOf (construction q (nodes q)) (sizesOf q) (states q (nodes q))
+-- The table of a query's states before merging, and the table of the query: the smallest one.
+abbrev pub statesTable : Query → Table
+statesTable q = tableOf (construction q (nodes q)) (sizesOf q) (states q (nodes q))
 
--- Constructing, for a query that passed checks 1 to 6: 7, then 8.
+abbrev pub queryTable : Query → Table
+queryTable q = mergeTable (statesTable q)
+
+-- Constructing, for a query that passed checks 1 to 6: 7, then 8, which counts the states before merging.
 unfoldable pub construct : Query → Constructed
 construct q =
     let ns = nodes q in
@@ -33,7 +37,7 @@ construct q =
       | true ↦ too-many orderings-refused
       | false ↦
           let sts = states q ns in
-          elim (ltb maxStates (length sts)) [ true ↦ too-many states-refused | false ↦ table (tableOf (construction q ns) (sizesOf q) sts) (length ns) ]
+          elim (ltb maxStates (length sts)) [ true ↦ too-many states-refused | false ↦ table (mergeTable (tableOf (construction q ns) (sizesOf q) sts)) (length ns) ]
     ]
 
 -- What it means: 7 exactly when there are more than 256 nodes, else 8 exactly when there are more than 128 states, else the query's table.

@@ -1,6 +1,6 @@
 -- Document 02, Req 02: the smallest table. Two states share a row exactly when no order lookup after any run of sets tells them apart.
 use Prim.Native.Nat.{ℕ}
-use mathlib.Core.Bool.{Bool, _&&_, Bool·beq}
+use mathlib.Core.Bool.{Bool, _&&_, _||_, Bool·beq}
 use mathlib.Core.List.{List, map}
 use lib.Dec.{eqb}
 use lib.ListN.{getD}
@@ -18,9 +18,10 @@ abbrev pub oneEntry : Sizes → Sizes
 oneEntry z = record { produced = 1; tested = z .tested; sets = z .sets }
 
 module _ (z : Sizes) (m : Machine ℕ) where
-  -- No run of sets tells the two states apart: a test that computes. They hold the same, and so do the states of every pair that is reached from them together.
+  -- No run of sets tells the two states apart: a test that computes. They are one state, or they hold the same, and so do the states of every pair that is reached from
+  -- them together.
   unfoldable pub alike : ℕ → ℕ → Bool
-  alike x y = sameList Bool·beq (m .held x) (m .held y) && agree maxPairs (oneEntry z) (enteredAt m x) (enteredAt m y)
+  alike x y = eqb x y || (sameList Bool·beq (m .held x) (m .held y) && agree maxPairs (oneEntry z) (enteredAt m x) (enteredAt m y))
 
   -- The class of each of n states: the number of the first state that it is like.
   unfoldable pub classes : ℕ → List ℕ
@@ -37,6 +38,14 @@ mergedOf t = merged (classes (countsOf t) (numbersOf t) (t .stateCount)) (number
 abbrev pub rowsOf : Table → List ℕ
 rowsOf t = numberedWithin (mergedOf t) maxStates (countsOf t)
 
+-- The row of each of its states.
+abbrev pub rowOf : Table → ℕ → ℕ
+rowOf t x = position eqb (getD (classes (countsOf t) (numbersOf t) (t .stateCount)) x 0) (rowsOf t)
+
+-- The table of a machine, its states numbered by the walk.
+unfoldable pub walkedTable : Sizes → Machine ℕ → Table
+walkedTable z m = tableOf m z (numberedWithin m maxStates z)
+
 -- The table with merged rows.
 unfoldable pub mergeTable : Table → Table
-mergeTable t = let k = mergedOf t in tableOf k (countsOf t) (numberedWithin k maxStates (countsOf t))
+mergeTable t = walkedTable (countsOf t) (mergedOf t)

@@ -21,11 +21,11 @@ use Rattle.theory.specs.Verification.{verifyRefusal}
 pub data Expectation : Type 0 where
   -- the build gives this table, with so many nodes
   table : Bytes → ℕ → Expectation
-  -- the build gives a table of so many states and so many bytes, with so many nodes
+  -- the build gives a table of so many rows and so many bytes, with so many nodes
   builds : ℕ → ℕ → ℕ → Expectation
   -- the build is refused with this number
   refusal : ℕ → Expectation
-  -- there are so many states
+  -- there are so many states, before merging
   state-count : ℕ → Expectation
   -- after a produced order, by number, and the sets an interesting order, by number, is held or not
   after : ℕ → List ℕ → ℕ → Bool → Expectation
@@ -48,13 +48,12 @@ sameOutcome (built s m) (built t n) = sameList eqb s t && eqb m n
 abbrev pub outcomeOf : Bytes → Outcome
 outcomeOf query = outcome query scratchLength longestTable
 
--- The build gives a table of m states and b bytes, with n nodes, and there are exactly so many states.
+-- The build gives a table of m rows and b bytes, with n nodes.
 pub record Builds (query : Bytes) (m b n : ℕ) : Type 0 where
   pub written : Bytes
   pub gives : outcomeOf query ≡ built written n
-  pub states-written : statesIn written ≡ m
+  pub rows-written : statesIn written ≡ m
   pub bytes-written : length written ≡ b
-  pub states : Exactly m (State (readQuery query) (nodes (readQuery query)))
 
 abbrev pub hasSizes : Outcome → ℕ → ℕ → ℕ → Bool
 hasSizes (refused r) m b n = false
@@ -144,6 +143,10 @@ seven-sets = 8 ∷ 1 ∷ 7 ∷ 7 ∷ 7 ∷ 1 ∷ 2 ∷ 2 ∷ 2 ∷ 2 ∷ 2 ∷ 2
 abbrev pub eight-sets : Bytes
 eight-sets = 9 ∷ 1 ∷ 8 ∷ 8 ∷ 8 ∷ 1 ∷ 2 ∷ 2 ∷ 2 ∷ 2 ∷ 2 ∷ 2 ∷ 2 ∷ 2 ∷ 16 ∷ 17 ∷ 18 ∷ 19 ∷ 20 ∷ 21 ∷ 22 ∷ 23 ∷ 0 ∷ 255 ∷ 255 ∷ 255 ∷ 0 ∷ 1 ∷ 255 ∷ 255 ∷ 0 ∷ 2 ∷ 255 ∷ 255 ∷ 0 ∷ 3 ∷ 255 ∷ 255 ∷ 0 ∷ 4 ∷ 255 ∷ 255 ∷ 0 ∷ 5 ∷ 255 ∷ 255 ∷ 0 ∷ 6 ∷ 255 ∷ 255 ∷ 0 ∷ 7 ∷ 255 ∷ 255 ∷ 0 ∷ 8 ∷ 255 ∷ 255 ∷ 0 ∷ 1 ∷ 255 ∷ 255 ∷ 0 ∷ 2 ∷ 255 ∷ 255 ∷ 0 ∷ 3 ∷ 255 ∷ 255 ∷ 0 ∷ 4 ∷ 255 ∷ 255 ∷ 0 ∷ 5 ∷ 255 ∷ 255 ∷ 0 ∷ 6 ∷ 255 ∷ 255 ∷ 0 ∷ 7 ∷ 255 ∷ 255 ∷ 0 ∷ 8 ∷ 255 ∷ 255 ∷ []
 
+-- Document 000's running query: produced (b), (a,b), tested (a,b,c), sets {b → c}, {b → d}; a, b, c, d are 0, 1, 2, 3.
+abbrev pub running-query : Bytes
+running-query = 4 ∷ 2 ∷ 1 ∷ 2 ∷ 2 ∷ 1 ∷ 2 ∷ 3 ∷ 16 ∷ 17 ∷ 1 ∷ 255 ∷ 255 ∷ 255 ∷ 0 ∷ 1 ∷ 255 ∷ 255 ∷ 0 ∷ 1 ∷ 2 ∷ 255 ∷ 1 ∷ 2 ∷ 255 ∷ 255 ∷ 1 ∷ 3 ∷ 255 ∷ 255 ∷ []
+
 -- Order (a,a).
 abbrev pub repeated-column : Bytes
 repeated-column = 2 ∷ 1 ∷ 0 ∷ 0 ∷ 0 ∷ 2 ∷ 0 ∷ 0 ∷ 255 ∷ 255 ∷ []
@@ -152,10 +155,10 @@ repeated-column = 2 ∷ 1 ∷ 0 ∷ 0 ∷ 0 ∷ 2 ∷ 0 ∷ 0 ∷ 255 ∷ 255 �
 abbrev pub column-past-the-end : Bytes
 column-past-the-end = 2 ∷ 1 ∷ 0 ∷ 0 ∷ 0 ∷ 1 ∷ 2 ∷ 255 ∷ 255 ∷ 255 ∷ []
 
--- The starred trials, in document 01's order.
+-- The starred trials, in document 01's order, with the tables of document 02; behind them the running query, which has as many rows as its paper has states, three.
 abbrev pub trials : List Trial
 trials =
-    record { query = example; expected = table (5 ∷ 2 ∷ 2 ∷ 2 ∷ 0 ∷ 1 ∷ 2 ∷ 0 ∷ 1 ∷ 3 ∷ 2 ∷ 4 ∷ 3 ∷ 3 ∷ 4 ∷ 4 ∷ 1 ∷ 0 ∷ 2 ∷ 0 ∷ 5 ∷ 0 ∷ 10 ∷ 0 ∷ 5 ∷ 0 ∷ []) 10 } ∷
+    record { query = example; expected = table (4 ∷ 2 ∷ 2 ∷ 2 ∷ 0 ∷ 1 ∷ 2 ∷ 0 ∷ 1 ∷ 3 ∷ 2 ∷ 2 ∷ 3 ∷ 3 ∷ 1 ∷ 0 ∷ 2 ∷ 0 ∷ 5 ∷ 0 ∷ 10 ∷ 0 ∷ []) 10 } ∷
     record { query = both-ways; expected = after 0 (0 ∷ 1 ∷ []) 1 true } ∷
     record { query = both-ways; expected = after 0 (1 ∷ 0 ∷ []) 1 true } ∷
     record { query = not-remembered; expected = after 0 (0 ∷ 1 ∷ []) 1 false } ∷
@@ -169,20 +172,24 @@ trials =
     record { query = example; expected = same-state 1 (1 ∷ 1 ∷ []) (1 ∷ []) } ∷
     record { query = with-empty-set; expected = same-state 0 (2 ∷ []) [] } ∷
     record { query = with-empty-set; expected = same-state 1 (1 ∷ 2 ∷ []) (1 ∷ []) } ∷
+    record { query = seven-sets; expected = state-count 128 } ∷
     record { query = seven-sets; expected = builds 128 1157 9 } ∷
     record { query = eight-sets; expected = state-count 256 } ∷
     record { query = eight-sets; expected = refusal 8 } ∷
     record { query = repeated-column; expected = refusal 5 } ∷
     record { query = column-past-the-end; expected = refusal 4 } ∷
+    record { query = running-query; expected = table (3 ∷ 2 ∷ 1 ∷ 2 ∷ 0 ∷ 1 ∷ 0 ∷ 0 ∷ 2 ∷ 1 ∷ 2 ∷ 2 ∷ 1 ∷ 0 ∷ 2 ∷ 0 ∷ 6 ∷ 0 ∷ []) 6 } ∷
+    record { query = running-query; expected = state-count 4 } ∷
     []
 
--- Document 02, Req 01: suppliers' tables on trial. Accepted: our own, one with other state numbers, one with two rows that behave alike, one with a row that no start
--- reaches. Refused: one with another number of tested orders; one that claims (b) from (a) by a pair of fixes; one made with the prefix test; one that is wrong only
+-- Document 02, Req 01: suppliers' tables on trial. Accepted: our own, one with a row for each state of the construction, one with other state numbers, one with two rows
+-- that behave alike twice over, one with a row that no start reaches. Refused: one with another number of tested orders; one that claims (b) from (a) by a pair of fixes; one made with the prefix test; one that is wrong only
 -- after three sets.
 abbrev pub supplied : List Trial
 supplied =
+    record { query = example; expected = verified (4 ∷ 2 ∷ 2 ∷ 2 ∷ 0 ∷ 1 ∷ 2 ∷ 0 ∷ 1 ∷ 3 ∷ 2 ∷ 2 ∷ 3 ∷ 3 ∷ 1 ∷ 0 ∷ 2 ∷ 0 ∷ 5 ∷ 0 ∷ 10 ∷ 0 ∷ []) 0 } ∷
     record { query = example; expected = verified (5 ∷ 2 ∷ 2 ∷ 2 ∷ 0 ∷ 1 ∷ 2 ∷ 0 ∷ 1 ∷ 3 ∷ 2 ∷ 4 ∷ 3 ∷ 3 ∷ 4 ∷ 4 ∷ 1 ∷ 0 ∷ 2 ∷ 0 ∷ 5 ∷ 0 ∷ 10 ∷ 0 ∷ 5 ∷ 0 ∷ []) 0 } ∷
-    record { query = example; expected = verified (5 ∷ 2 ∷ 2 ∷ 2 ∷ 3 ∷ 0 ∷ 0 ∷ 1 ∷ 1 ∷ 1 ∷ 2 ∷ 2 ∷ 4 ∷ 3 ∷ 4 ∷ 2 ∷ 2 ∷ 0 ∷ 10 ∷ 0 ∷ 5 ∷ 0 ∷ 1 ∷ 0 ∷ 5 ∷ 0 ∷ []) 0 } ∷
+    record { query = example; expected = verified (4 ∷ 2 ∷ 2 ∷ 2 ∷ 2 ∷ 0 ∷ 0 ∷ 1 ∷ 1 ∷ 1 ∷ 3 ∷ 2 ∷ 3 ∷ 3 ∷ 2 ∷ 0 ∷ 10 ∷ 0 ∷ 1 ∷ 0 ∷ 5 ∷ 0 ∷ []) 0 } ∷
     record { query = example; expected = verified (6 ∷ 2 ∷ 2 ∷ 2 ∷ 0 ∷ 1 ∷ 2 ∷ 0 ∷ 1 ∷ 3 ∷ 2 ∷ 4 ∷ 5 ∷ 3 ∷ 4 ∷ 4 ∷ 3 ∷ 5 ∷ 1 ∷ 0 ∷ 2 ∷ 0 ∷ 5 ∷ 0 ∷ 10 ∷ 0 ∷ 5 ∷ 0 ∷ 10 ∷ 0 ∷ []) 0 } ∷
     record { query = constant; expected = verified (3 ∷ 1 ∷ 1 ∷ 1 ∷ 0 ∷ 2 ∷ 0 ∷ 2 ∷ 1 ∷ 0 ∷ 2 ∷ 0 ∷ 3 ∷ 0 ∷ []) 0 } ∷
     record { query = example; expected = verified (3 ∷ 2 ∷ 1 ∷ 2 ∷ 0 ∷ 1 ∷ 2 ∷ 0 ∷ 1 ∷ 1 ∷ 2 ∷ 2 ∷ 1 ∷ 0 ∷ 2 ∷ 0 ∷ 5 ∷ 0 ∷ []) 12 } ∷

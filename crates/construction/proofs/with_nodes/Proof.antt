@@ -1,21 +1,20 @@
--- `construction::with_nodes` meets its contract: there are too many states, or starts and held words are stored behind the successors.
+-- `construction::with_nodes` meets its contract: there are too many states, or starts and held words are stored behind the successors, and merged.
 use Prim.Native.Nat.{_≤_}
 use native.Mathlib.Omega.{arith}
-use mathlib.Core.Path.{_≡_, sym, _∙_, ap}
+use mathlib.Core.Path.{_≡_, sym, _∙_, ap, subst}
 use lib.ListN.{length}
 use denote.Ref.{now}
 use borrow.Author.Needs.{needs}
 use Rattle.theory.specs.Limits.{maxNodes}
-use Rattle.theory.specs.Table.{tableOf}
-use Rattle.theory.specs.Scratch.{startsPart, heldPart}
+use Rattle.theory.specs.Scratch.{startsPart, heldPart, Stored}
 use Rattle.theory.proofs.QueryLaws.{query-sizes, produced-count, set-count}
 use Rattle.byte_rows.specs.Placed.{placed}
 use Rattle.byte_rows.proofs.PlacedLaws.{placed-row, placed-length}
 use Rattle.nodes.proofs.NodeKeys.{nodes-count}
-use Rattle.closure.specs.Work.{nodesOf}
+use Rattle.closure.specs.Work.{nodesOf, contentsOf}
 use Rattle.construction.specs.Held.{heldBefore}
-use Rattle.construction.proofs.StoreLaws.{state-count, rows-kept, held-length, all-stored}
-use Rattle.construction.proofs.LeavesLaws.{states-many-left, table-left}
+use Rattle.construction.proofs.StoreLaws.{state-count, rows-kept, all-stored}
+use Rattle.construction.proofs.LeavesLaws.{states-many-left}
 use Rattle.construction.proofs.with_nodes.Statement.{statement}
 use Rattle.construction.proofs.with_nodes.Tie as tie
 
@@ -57,12 +56,8 @@ store-requires c κs = let p = c .before .before .before in let n = p .before .b
     let wide = ap length put ∙ placed-length startsPart starts work (omega (arith, e .2, s .pre .1)) in
     (record { wanted = s .args .wanted; depth = s .args .longest; ready = s .pre .0 }, are .few, rw put (rows-kept (n .number .result) startsPart starts work (omega (arith, are .few)) (omega (arith, s .pre .1)) ∙ are .rows), omega (arith, wide, long, s .pre .1))
 
-same-length-2 : tie.Need-same-length-2
-same-length-2 c = search needs
-
-returns-2 : tie.Need-returns-2
-unfolding tableOf
-returns-2 c = let t = c .before .before in let p = t .before .before .before .before in let n = p .before .before .before .before .before .before .before in let s = n .before .before .before .before .before .before in
+merged-requires : tie.Need-merged-requires
+merged-requires c κs = let t = c .before .before .before in let p = t .before .before .before .before in let n = p .before .before .before .before .before .before .before in let s = n .before .before .before .before .before .before in
     let e = n .number .ensures in
     let b = now (s .args .query) in
     let q = n .number .result in
@@ -71,13 +66,22 @@ returns-2 c = let t = c .before .before in let p = t .before .before .before .be
     let starts = n .number .last .1 .1 .1 .1 .0 in
     let put = p .copy .ensures ∙ placed-row work startsPart starts in
     let all = t .store .ensures ∙ ap (placed heldPart (heldBefore b q)) put in
-    let count = state-count b work q (are .rows) in
     let sizes = query-sizes b (s .pre .0 .prepared .checked) in
-    let wide = placed-length startsPart starts work (omega (arith, e .1, e .2, s .pre .1)) in
-    let stored = all-stored are (omega (arith, e .1, s .pre .1)) (e .2) (omega (arith, set-count b, sizes .few-sets)) (omega (arith, produced-count b, sizes .few-produced)) in (
-      table-left b (few s) (omega (arith, count, are .few)) (rw all stored) (λ i. record { refusal = 0; states = sym count i; nodes = sym (nodes-count (s .pre .0 .listed)) i }),
-      ap length all ∙ placed-length heldPart (heldBefore b q) (placed startsPart starts work) (omega (arith, held-length b q, wide, are .few, e .1, s .pre .1)) ∙ wide ∙ e .1,
-    )
+    let stored = all-stored are (omega (arith, e .1, s .pre .1)) (e .2) (omega (arith, set-count b, sizes .few-sets)) (omega (arith, produced-count b, sizes .few-produced)) in
+    record {
+      checked = s .pre .0 .prepared .checked;
+      few-nodes = s .pre .0 .listed .few;
+      few-states = are .few;
+      node-count = nodes-count (s .pre .0 .listed);
+      state-count = state-count b work q (are .rows);
+      stored = subst (Stored (contentsOf b)) (sym all) stored;
+    }
+
+same-length-2 : tie.Need-same-length-2
+same-length-2 c = search needs
+
+returns-2 : tie.Need-returns-2
+returns-2 c = search needs
 
 pub with-nodes-spec : {M : Type 1} → statement M
 with-nodes-spec =
@@ -91,5 +95,6 @@ with-nodes-spec =
     slice-aggregate-copy
     copy-requires
     store-requires
+    merged-requires
     same-length-2
     returns-2)
