@@ -5,7 +5,7 @@
 
 #include "order_tables.h"
 
-static const char *const names[3] = {"first", "renumbered", "damaged"};
+static const char *const names[4] = {"first", "renumbered", "unmerged", "damaged"};
 
 /* Each buffer has room for one byte more than the longest, so that a longer file is refused and not cut. */
 static uint8_t query[ORDER_TABLE_LONGEST_QUERY + 1];
@@ -33,7 +33,7 @@ static void print_use(size_t length) {
 
 int main(void) {
     size_t query_length = read_file("examples/first.query", query, sizeof query);
-    for (size_t i = 0; i < 3; i++) {
+    for (size_t i = 0; i < 4; i++) {
         char path[64];
         snprintf(path, sizeof path, "examples/%s.table", names[i]);
         size_t length = read_file(path, table, sizeof table);

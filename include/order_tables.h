@@ -7,7 +7,7 @@
  * a null one. Nothing is allocated, and nothing is kept between calls.
  *
  * Handles are bytes of three kinds: interesting orders (the produced ones first, then the tested ones), sets, and states. One never stands in
- * for another. A plan node carries one state.
+ * for another. A state of a table is one of its rows. A plan node carries one state.
  */
 #ifndef ORDER_TABLES_H
 #define ORDER_TABLES_H
@@ -29,7 +29,7 @@ enum order_table_refusals {
     ORDER_TABLE_REPEAT = 5,    /* a column twice in one order or one dependency */
     ORDER_TABLE_TWIN = 6,      /* two equal interesting orders */
     ORDER_TABLE_ORDERINGS = 7, /* the construction has more than 256 nodes */
-    ORDER_TABLE_STATES = 8,    /* it has more than 128 states */
+    ORDER_TABLE_STATES = 8,    /* it has more than 128 states, counted before any are merged into one row */
     ORDER_TABLE_SPACE = 9,     /* scratch below ORDER_TABLE_SCRATCH bytes, or output or text too short */
     ORDER_TABLE_HANDLE = 10,   /* state, produced order, set or interesting order not in the table */
     ORDER_TABLE_ROW = 11,      /* a start or successor that is no state of the table, or a held bit past the interesting orders */
@@ -65,6 +65,8 @@ uint64_t order_query_order(const uint8_t *query, size_t query_length, uint8_t i)
 uint64_t order_query_dependency(const uint8_t *query, size_t query_length, uint8_t i);
 
 /* Builds the table of a query into the output's first bytes. Value: the table's length. Refusals: 1 to 9.
+ * It is the smallest table: two states of the construction share a row exactly when no order lookup after any run of sets tells them apart, and
+ * order_table_verify accepts no table with fewer rows. Refusal 8 counts the states before they are merged; 9 for output goes by the table written.
  * On refusal the output keeps its bytes, and those past the table always keep theirs. Refusals 1 to 6, and 9 for scratch, leave the scratch as it
  * is. Afterwards its first ORDER_TABLE_SCRATCH bytes are 0 in every other case; those past them keep theirs. */
 uint32_t order_table_build(const uint8_t *query, size_t query_length, uint8_t *scratch, size_t scratch_length, uint8_t *output,
@@ -83,7 +85,7 @@ uint32_t order_table_check(const uint8_t *table, size_t table_length);
 /* Puts a supplier's table on trial for a query. Value: 0, so that an accepted table gives the result 0. Where no refusal before 13 comes, a table is
  * accepted exactly when, from every start and through every run of sets, its answer for each interesting order is the one that the derivation
  * rules give, uncut. State numbers may differ from those of order_table_build, two rows may behave alike, and rows that no start reaches may hold
- * anything that the form allows.
+ * anything that the form allows. An accepted table has at least as many rows as the one that order_table_build writes.
  * Refusals, in this order: 1 to 6 of the query, 9 for scratch, 7 and 8 of the query; 1, 2 and 11 of the table, as order_table_check gives them; 12
  * when the table's numbers of produced orders, tested orders and sets are not the query's; 13 when some answer that a start and a run of sets
  * reach is wrong. Query and table are only read. Refusals 1 to 6 of the query, and 9, leave the scratch as it is. Afterwards its first
@@ -104,7 +106,8 @@ uint32_t order_table_ask(const uint8_t *table, size_t table_length, uint8_t stat
 uint32_t order_table_row(const uint8_t *table, size_t table_length, uint8_t state);
 
 /* Writes the listing of a query, or the line that says how it is refused with 1 to 8, into the text's first bytes. Value: the length of what is
- * written. Refusal: 9, and then the text keeps its bytes; those past what is written always keep theirs. The checks 1 to 6 come first; then 9 for
+ * written. The count of states is that of the table's rows, and the count of nodes is that of the construction, before merging.
+ * Refusal: 9, and then the text keeps its bytes; those past what is written always keep theirs. The checks 1 to 6 come first; then 9 for
  * scratch, which a query that they refuse does not need; then 7 and 8; and last 9 for a text shorter than what is to be written. The scratch is
  * afterwards as order_table_build leaves it. */
 uint32_t order_table_list(const uint8_t *query, size_t query_length, uint8_t *scratch, size_t scratch_length, uint8_t *text, size_t text_length);

@@ -1,7 +1,7 @@
 //! Building and listing: the proved library and the second implementation give
 //! the same tables, the same listings and the same refusals, and leave the lent
-//! buffers as document 01 says. Lists of lookups on the built tables are
-//! answered as the plain model answers them.
+//! buffers as document 01 says. The built tables are the smallest. Lists of lookups
+//! on them are answered as the plain model answers them.
 
 use differential::lent::Lent;
 use differential::replay::{lookup_bytes, replayed_answers};
@@ -11,9 +11,12 @@ use order_tables::{LISTING_BYTES, LONGEST_TABLE, SCRATCH_BYTES};
 use reference::builder::build_table;
 use reference::construction::{Construction, Limits};
 use reference::lookups::{model_answers, table_answers, Answer};
+use reference::merging::merged;
 use reference::random::Random;
 use reference::samples::{self, constants_among_produced, own_column_per_set, Shape};
-use reference::{buffers, listing, trials};
+use reference::table::Table;
+use reference::verification::two_alike;
+use reference::{buffers, listing, trials, Implementation, Query};
 
 /// The length of a table, for queries that have none.
 const SOME_TABLE: usize = 26;
@@ -231,6 +234,31 @@ fn nodes_up_to_256_and_past_them() {
     comparison.report("nodes up to 256 and past them");
     assert_eq!(comparison.queries.with(0), 2);
     assert_eq!(comparison.queries.with(7), 2);
+}
+
+#[test]
+fn built_tables_are_the_smallest() {
+    for round in 0..rounds() {
+        let mut random = Random::new(1000 * round + 10);
+        let (mut tables, mut smaller) = (0, 0);
+        for _ in 0..10_000 {
+            let query = samples::any_query(&mut random);
+            let mut output = [0; LONGEST_TABLE];
+            let built = Library::build(&query, &mut [0; SCRATCH_BYTES], &mut output);
+            let Ok(length) = built else {
+                continue;
+            };
+            let table = Table::read(&output[..length]).expect("a built table has the form");
+            assert_eq!(merged(&table), table, "{query:?}");
+            assert_eq!(two_alike(&table), None, "{query:?}");
+            let query = Query::read(&query).expect("the query has a table");
+            let states = samples::unmerged(&query).states.len();
+            tables += 1;
+            smaller += usize::from(table.states.len() < states);
+        }
+        println!("{tables} built tables are the smallest, {smaller} have fewer rows than states");
+        assert!(tables > 4000 && smaller > 500);
+    }
 }
 
 #[test]

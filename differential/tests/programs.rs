@@ -74,7 +74,7 @@ fn every_trial_with_a_supplied_table() {
             tried += 1;
         }
     }
-    assert!(tried >= 7, "only {tried} trials");
+    assert!(tried >= 8, "only {tried} trials");
 }
 
 #[test]
@@ -120,7 +120,7 @@ fn files_that_are_empty_or_longer_than_a_query_or_a_table() {
         assert_eq!(compare(&folder, &resized(query, length), table), Err(1));
         assert_eq!(compare(&folder, &resized(&[0], length), table), Err(2));
     }
-    for length in [27, 1291, 1292, 1293, 1294, 2000, 70_000] {
+    for length in [23, 1291, 1292, 1293, 1294, 2000, 70_000] {
         assert_eq!(compare(&folder, query, &resized(table, length)), Err(1));
         assert_eq!(compare(&folder, query, &resized(&[0], length)), Err(2));
     }

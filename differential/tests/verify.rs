@@ -2,13 +2,14 @@
 //! accept the same tables, refuse the others with the same numbers, and leave the
 //! lent buffers as document 01 says. What is known of a table from the way it was
 //! made is what comes out. Accepted tables answer lists of lookups as the plain
-//! model does.
+//! model does, have at least as many rows as the query's own, and merge into it.
 
 use differential::lent::Lent;
 use differential::tally::Tally;
 use differential::{codes, proved, rounds, Library, SCRATCH_LENGTHS};
 use reference::builder::table_of;
 use reference::lookups::{model_answers, table_answers, Answer, Lookup};
+use reference::merging::merged;
 use reference::random::Random;
 use reference::samples::{self, Kind, Shape, Supplied};
 use reference::table::Table;
@@ -76,8 +77,8 @@ impl Comparison {
     }
 
     /// Compares the trial of one table of each kind for a query with this table.
-    /// What is known of it must come out, and when it is accepted, it must answer
-    /// lookups so.
+    /// What is known of it must come out. When it is accepted, it must have at least
+    /// as many rows, merge into the query's own table, and answer lookups so.
     fn compare_kinds(
         &mut self,
         query: &Query,
@@ -92,6 +93,12 @@ impl Comparison {
             assert!(as_known, "{kind:?} {verified:?} {table:?} {query:?}");
             self.by_kind[kind as usize].count(codes::answer(verified.map(|()| 0)));
             if verified.is_ok() {
+                let accepted = Table::read(&table).expect("an accepted table has the form");
+                assert!(
+                    accepted.states.len() >= own.states.len(),
+                    "{table:?} {query:?}"
+                );
+                assert_eq!(merged(&accepted), *own, "{table:?} {query:?}");
                 let lookups = samples::lookups(&mut self.random, query, 30);
                 let given = table_answers::<Library>(&table, &lookups);
                 assert_eq!(given, answers(&lookups), "{lookups:?} {table:?} {query:?}");
@@ -293,10 +300,8 @@ fn random_bytes_as_tables() {
 #[test]
 fn wrong_after_127_sets() {
     let mut comparison = Comparison::new(9);
-    let (query, right) = samples::longest_chain();
+    let (query, [right, wrong]) = samples::longest_chain();
     let (query, own) = (query.write(), table_of(&query.write()));
-    let mut wrong = right.clone();
-    wrong.states[127].held = 0;
     for (table, expected) in [(right, Ok(())), (wrong, Err(13))] {
         // The states are met upwards, downwards, and in random sequences.
         let mut downwards = table.clone();

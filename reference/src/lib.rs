@@ -7,10 +7,11 @@
 //!
 //! The way from a query to an answer is: [`query`] reads the description,
 //! [`construction`] finds nodes and states with the steps of [`derivation`],
-//! [`table`] writes them down and looks them up. [`builder`] and [`mod@listing`]
-//! join these, [`verification`] puts a supplier's table on trial, and [`buffers`]
-//! puts what they give into lent buffers. [`model`] answers the same lookups
-//! without a table, uncut, and [`rows`] says what the answers mean for rows.
+//! [`merging`] leaves the fewest rows, [`table`] writes them down and looks them
+//! up. [`builder`] and [`mod@listing`] join these, [`verification`] puts a
+//! supplier's table on trial, and [`buffers`] puts what they give into lent
+//! buffers. [`model`] answers the same lookups without a table, uncut, and
+//! [`rows`] says what the answers mean for rows.
 //!
 //! For comparisons, [`implementation`] says what an implementation does,
 //! [`mod@trials`] reads the folder trials/ and puts its trials to one, and
@@ -26,6 +27,7 @@ pub mod derivation;
 pub mod implementation;
 pub mod listing;
 pub mod lookups;
+pub mod merging;
 pub mod model;
 pub mod node_set;
 pub mod program;

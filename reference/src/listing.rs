@@ -1,7 +1,7 @@
-//! The listing: a query's construction as text. Every line ends in a newline.
+//! The listing: a query's table as text, with the count of nodes. Every line ends
+//! in a newline.
 
-use crate::construction::Construction;
-use crate::query::Query;
+use crate::builder::constructed;
 
 /// The listing of a query's bytes, or one line with the refusal's number. Space
 /// never runs short, so 9 never comes.
@@ -9,7 +9,7 @@ pub fn listing(query: &[u8]) -> String {
     printed(&lines(query))
 }
 
-/// What is printed: a construction's lines, or the line of a refusal.
+/// What is printed: a listing's lines, or the line of a refusal.
 pub fn printed(lines: &Result<String, u8>) -> String {
     match lines {
         Ok(lines) => lines.clone(),
@@ -17,25 +17,26 @@ pub fn printed(lines: &Result<String, u8>) -> String {
     }
 }
 
-/// The lines of the construction of a query's bytes, or the refusal's number.
+/// The lines of the listing of a query's bytes, or the refusal's number.
 pub fn lines(query: &[u8]) -> Result<String, u8> {
-    let construction = Construction::of(&Query::read(query)?)?;
-    let starts = construction.starts.iter().enumerate();
+    let (construction, table) = constructed(query)?;
+    let counts = counts(table.states.len(), construction.nodes.len());
+    let starts = table.starts.iter().enumerate();
     let starts = starts.map(|(order, state)| format!("start {order} {state}\n"));
-    let rows = construction.successors.iter().zip(&construction.held);
-    let rows = rows.enumerate().map(|(state, (successors, held))| {
-        let next: String = successors.iter().map(|next| format!(" {next}")).collect();
-        format!("state {state} next{next} held {held}\n")
+    let rows = table.states.iter().enumerate().map(|(number, state)| {
+        let next = state.successors.iter().map(|next| format!(" {next}"));
+        let next: String = next.collect();
+        format!("state {number} next{next} held {}\n", state.held)
     });
-    Ok([counts(&construction) + "\n"]
+    Ok([counts + "\n"]
         .into_iter()
         .chain(starts)
         .chain(rows)
         .collect())
 }
 
-/// The counts that a listing begins with.
-pub fn counts(construction: &Construction) -> String {
-    let (states, nodes) = (construction.states.len(), construction.nodes.len());
+/// A line of counts, as a listing begins with. There it is the rows written, and
+/// the nodes before merging.
+pub fn counts(states: usize, nodes: usize) -> String {
     format!("states {states} nodes {nodes}")
 }

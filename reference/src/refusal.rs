@@ -15,7 +15,7 @@ pub const REPEAT: u8 = 5;
 pub const TWIN: u8 = 6;
 /// More than 256 nodes.
 pub const ORDERINGS: u8 = 7;
-/// More than 128 states.
+/// More than 128 states, counted before merging.
 pub const STATES: u8 = 8;
 /// Scratch below 16,384 bytes, or output shorter than the table.
 pub const SPACE: u8 = 9;

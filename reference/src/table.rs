@@ -33,7 +33,7 @@ pub struct State {
 }
 
 impl Table {
-    /// The table of a query and its construction.
+    /// The table with a row for each state of a query's construction, none merged.
     pub fn of(query: &Query, construction: &Construction) -> Self {
         let numbers = |states: &[usize]| states.iter().map(|&state| state as u8).collect();
         let rows = construction.successors.iter().zip(&construction.held);

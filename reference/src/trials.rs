@@ -31,11 +31,12 @@ pub struct Trial {
     pub table: Vec<u8>,
     /// Lists of lookups that end in an ask, and whether that says held.
     pub asks: Vec<(Vec<Lookup>, bool)>,
-    /// Produced orders, and of each two lists of sets that lead to one state.
+    /// Produced orders, and of each two lists of sets that lead to one state of
+    /// the table.
     pub same: Vec<(u8, [Vec<u8>; 2])>,
     /// A length of scratch, and the refusal with so much.
     pub scratch: Option<(usize, u8)>,
-    /// The listing's first line, if 7 and 8 were never given.
+    /// The counts of states and nodes before merging, if 7 and 8 were never given.
     pub without_limits: Option<String>,
     /// A supplier's table; empty when the trial has none.
     pub supplied: Vec<u8>,

@@ -2,15 +2,15 @@
 //!
 //! This is the equivalence test of Hopcroft and Karp for finite automata. The
 //! states of both tables are put into classes by a union-find. For each produced
-//! order its two starts are merged, and with every two states that are merged,
-//! their two successors under each set are merged too, until nothing is left to
-//! merge. Two states that are in one class already need no more.
+//! order its two starts are joined, and with every two states that are joined,
+//! their two successors under each set are joined too, until nothing is left to
+//! join. Two states that are in one class already need no more.
 //!
-//! Only states that one run of sets reaches in both tables are merged, so two
-//! merged states that hold different orders are a wrong answer. When no two do,
+//! Only states that one run of sets reaches in both tables are joined, so two
+//! joined states that hold different orders are a wrong answer. When no two do,
 //! each class holds the same orders throughout and leads to one class under each
 //! set. So every run of sets ends in both tables in one class, and all answers
-//! are alike. Each merging makes one class of two, so there are fewer of them
+//! are alike. Each joining makes one class of two, so there are fewer of them
 //! than states.
 
 use crate::listing;
@@ -46,12 +46,35 @@ fn sizes(table: &Table) -> (usize, u8, u8) {
 /// Whether two tables of the same P, T and S give the same answers from every
 /// start and through every run of sets.
 fn answer_alike(one: &Table, other: &Table) -> bool {
-    let mut classes = Classes::new(one.states.len() + other.states.len());
     let starts = one.starts.iter().zip(&other.starts);
-    let mut waiting: Vec<(&u8, &u8)> = starts.collect();
+    answer_alike_from(starts.collect(), one, other)
+}
+
+/// Whether two states of a table give the same answers through every run of
+/// sets.
+pub fn states_alike(table: &Table, one: u8, other: u8) -> bool {
+    answer_alike_from(vec![(&one, &other)], table, table)
+}
+
+/// Two states of a table that give the same answers through every run of sets,
+/// if there are two.
+pub fn two_alike(table: &Table) -> Option<(u8, u8)> {
+    let states = table.states.len() as u8;
+    let mut pairs = (0..states).flat_map(|one| (0..one).map(move |other| (other, one)));
+    pairs.find(|&(one, other)| states_alike(table, one, other))
+}
+
+/// Whether two tables of the same P, T and S give the same answers from some
+/// states, each of the one with one of the other, through every run of sets.
+fn answer_alike_from<'t>(
+    mut waiting: Vec<(&'t u8, &'t u8)>,
+    one: &'t Table,
+    other: &'t Table,
+) -> bool {
+    let mut classes = Classes::new(one.states.len() + other.states.len());
     while let Some((&state, &other_state)) = waiting.pop() {
         let (state, other_state) = (usize::from(state), usize::from(other_state));
-        if classes.merge(state, one.states.len() + other_state) {
+        if classes.join(state, one.states.len() + other_state) {
             let (state, other_state) = (&one.states[state], &other.states[other_state]);
             if state.held != other_state.held {
                 return false;
@@ -90,7 +113,7 @@ impl Classes {
 
     /// Makes one class of the classes of two numbers, and says whether they were
     /// two. The larger one keeps its root.
-    fn merge(&mut self, one: usize, other: usize) -> bool {
+    fn join(&mut self, one: usize, other: usize) -> bool {
         let (one, other) = (self.root(one), self.root(other));
         if one == other {
             return false;

@@ -4,6 +4,8 @@
 use std::fs;
 
 use reference::buffers::SCRATCH_BYTES;
+use reference::builder::constructed;
+use reference::construction::Construction;
 use reference::trials::{self, repository, Trial};
 use reference::{table, verification, Implementation, Reference};
 
@@ -64,12 +66,11 @@ fn lists(text: &str) -> Vec<Vec<u8>> {
     lists
 }
 
-/// The nodes and states that a trial's listing begins with.
-fn nodes_and_states(trial: &Trial) -> [&str; 2] {
-    match trial.lines[0].split(' ').collect::<Vec<_>>()[..] {
-        ["states", states, "nodes", nodes] => [nodes, states],
-        _ => panic!("trial {} has no counts", trial.name),
-    }
+/// The nodes and the states of a trial's construction, and the rows of its table.
+fn counts(trial: &Trial) -> [String; 3] {
+    let (construction, table) = constructed(&trial.query).expect("the trial has a table");
+    let Construction { nodes, states, .. } = construction;
+    [nodes.len(), states.len(), table.states.len()].map(|count| count.to_string())
 }
 
 #[test]
@@ -96,8 +97,8 @@ fn verified(query: &str, table: &str) -> Result<(), u8> {
 #[test]
 fn the_example_tables_are_what_is_said_of_them() {
     let query = "examples/first.query";
-    let [first, renumbered, damaged] =
-        ["first", "renumbered", "damaged"].map(|name| format!("examples/{name}.table"));
+    let [first, renumbered, unmerged, damaged] =
+        ["first", "renumbered", "unmerged", "damaged"].map(|name| format!("examples/{name}.table"));
     assert_eq!(file(&first), trials::example().table);
     assert_eq!(verified(query, &first), Ok(()));
 
@@ -106,9 +107,14 @@ fn the_example_tables_are_what_is_said_of_them() {
     assert_ne!(file(&renumbered), file(&first));
     assert_eq!(verified(query, &renumbered), Ok(()));
 
+    let supplied = trials::named("supplied_unmerged").supplied;
+    assert_eq!(file(&unmerged), supplied);
+    assert!(file(&unmerged).len() > file(&first).len());
+    assert_eq!(verified(query, &unmerged), Ok(()));
+
     // State 0, in which a scan in (a) is, holds (a,b), order 2, besides.
     let mut changed = file(&first);
-    changed[16] |= 1 << 2;
+    changed[14] |= 1 << 2;
     assert_eq!(file(&damaged), changed);
     assert_ne!(file(&damaged), file(&first));
     assert_eq!(table::check(&file(&damaged)), Ok(()));
@@ -133,7 +139,8 @@ fn the_readme_shows_how_the_example_tables_come_out() {
             _ => panic!("no command: {command}"),
         }
     }
-    assert_eq!(outcomes, ["accepted\n", "accepted\n", "refused 13\n"]);
+    let [accepted, refused] = ["accepted\n", "refused 13\n"];
+    assert_eq!(outcomes, [accepted, accepted, accepted, refused]);
 }
 
 #[test]
@@ -186,16 +193,16 @@ fn the_benchmarks_have_the_counts() {
     let builds: Vec<_> = rows(section(&benchmarks, "Builds, µs")).collect();
     for row in &builds {
         let trial = trials::named(row[0]);
-        assert_eq!(row[1..3], nodes_and_states(&trial), "{row:?}");
+        assert_eq!(row[1..4], counts(&trial), "{row:?}");
     }
     let verified = section(&benchmarks, "Trials of a supplier's table, µs");
     let verified: Vec<_> = rows(verified).map(|row| row[..2].to_vec()).collect();
-    let names_and_states = builds.iter().map(|row| vec![row[0], row[2]]);
-    assert_eq!(verified, names_and_states.collect::<Vec<_>>());
+    let names_and_rows = builds.iter().map(|row| vec![row[0], row[3]]);
+    assert_eq!(verified, names_and_rows.collect::<Vec<_>>());
     let trial = trials::named("tpcr_query_8");
-    let [nodes, states] = nodes_and_states(&trial);
+    let [nodes, _, rows_written] = counts(&trial);
     let length = trial.table_length.expect("the length is said").to_string();
     let last = rows(section(&benchmarks, "Document 000, section 6.2")).last();
     let last = last.expect("the table has rows");
-    assert_eq!(last[1..], [nodes, states, &length]);
+    assert_eq!(last[1..], [nodes, rows_written, length]);
 }

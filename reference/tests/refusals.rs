@@ -422,7 +422,7 @@ const LONG_SCRATCH: [usize; 3] = [16_384, 16_385, 20_000];
 fn scratch_below_its_length_gives_9_before_anything_is_constructed() {
     for query in [EXAMPLE.clone(), too_many_nodes(), too_many_states()] {
         for scratch in SHORT_SCRATCH {
-            for output in [0, 26, 2048] {
+            for output in [0, 22, 2048] {
                 assert_eq!(build_with(&query, scratch, output), Err(9));
                 assert_eq!(list_with(&query, scratch, output), Err(9));
             }
@@ -495,10 +495,10 @@ fn tables_of_every_outcome() -> Vec<(Vec<u8>, Result<(), u8>)> {
     vec![
         (own[..3].to_vec(), Err(1)),
         (with(0, 129), Err(2)),
-        (own[..25].to_vec(), Err(1)),
-        (with(6, 5), Err(11)),
+        (own[..own.len() - 1].to_vec(), Err(1)),
+        (with(6, 4), Err(11)),
         (trials::named("supplied_sizes_differ").supplied, Err(12)),
-        (with(16, 3), Err(13)),
+        (with(14, 3), Err(13)),
         (own, Ok(())),
     ]
 }

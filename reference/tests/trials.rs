@@ -8,7 +8,7 @@ use reference::trials::{self, Trial};
 use reference::{Dependency, Query, Reference};
 
 /// How many trials there are at least.
-const TRIALS: usize = 34;
+const TRIALS: usize = 37;
 
 #[test]
 fn every_trial() {
@@ -25,7 +25,7 @@ fn every_trial() {
 }
 
 /// Checks what a trial says that needs the query: what the plain model answers,
-/// and what there is without limits.
+/// and what is counted before merging and without limits.
 fn check_by_the_query(trial: &Trial, query: &Query) {
     for (lookups, held) in &trial.asks {
         let answer = model_answers(query, lookups).pop();
@@ -34,7 +34,8 @@ fn check_by_the_query(trial: &Trial, query: &Query) {
     }
     if let Some(expected) = &trial.without_limits {
         let counted = Construction::within(query, Limits::COUNTING).expect("countable");
-        assert_eq!(counts(&counted), *expected, "trial {}", trial.name);
+        let counts = counts(counted.states.len(), counted.nodes.len());
+        assert_eq!(counts, *expected, "trial {}", trial.name);
     }
 }
 

@@ -139,12 +139,11 @@ fn a_table_is_refused_exactly_when_a_run_of_sets_leads_to_a_wrong_answer() {
 #[test]
 fn a_wrong_answer_after_127_sets_is_found() {
     let mut random = Random::new(32);
-    let (query, right) = samples::longest_chain();
-    let mut wrong = right.clone();
-    wrong.states[127].held = 0;
+    let (query, tables) = samples::longest_chain();
     for _ in 0..20 {
-        let [right, wrong] =
-            [&right, &wrong].map(|table| samples::renumbered(&mut random, table).write());
+        let [right, wrong] = tables
+            .each_ref()
+            .map(|table| samples::renumbered(&mut random, table).write());
         assert_eq!(shortest_wrong_run(&query, &right, 127), None);
         assert_eq!(verify(&query, &right), Ok(()));
         assert_eq!(shortest_wrong_run(&query, &wrong, 127), Some(127));
@@ -192,6 +191,7 @@ fn tables_of_trials_are_wrong_after_as_many_sets_as_is_said_of_them() {
         ("supplied_wrong_after_three_sets", Some(3)),
         ("supplied_renumbered", None),
         ("supplied_twin_rows", None),
+        ("supplied_unmerged", None),
         ("supplied_unreachable_row", None),
     ] {
         let trial = trials::named(name);
@@ -215,7 +215,7 @@ fn a_table_of_other_sizes_may_be_right_for_its_own_query() {
 #[test]
 fn right_tables_differ_from_the_own_one_as_is_said_of_them() {
     let mut random = Random::new(33);
-    let mut renumbered = 0;
+    let (mut renumbered, mut unmerged) = (0, 0);
     for _ in 0..500 {
         let (query, own) = samples::query_with_table(&mut random, Shape::SMALL);
         let own = Table::read(&own).expect("a built table has the form");
@@ -227,6 +227,9 @@ fn right_tables_differ_from_the_own_one_as_is_said_of_them() {
         let table = supplied(Kind::Renumbered);
         assert_eq!(table.states.len(), own.states.len());
         renumbered += usize::from(table != own);
+        let states = supplied(Kind::Unmerged).states.len();
+        assert!(states >= own.states.len(), "{query:?}");
+        unmerged += usize::from(states > own.states.len());
         let mut longer = vec![Kind::TwinRows, Kind::UnreachableRows];
         if query.sets > 0 {
             longer.push(Kind::Chain);
@@ -238,4 +241,5 @@ fn right_tables_differ_from_the_own_one_as_is_said_of_them() {
         }
     }
     assert!(renumbered > 200, "only {renumbered} tables are renumbered");
+    assert!(unmerged > 50, "only {unmerged} tables have more rows");
 }

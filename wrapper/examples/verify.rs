@@ -6,12 +6,13 @@
 use order_tables::{verify, OrderHandle, Refusal, SetHandle, Table, SCRATCH_BYTES};
 
 const QUERY: &[u8] = include_bytes!("../../examples/first.query");
-const TABLES: [(&str, &[u8]); 3] = [
+const TABLES: [(&str, &[u8]); 4] = [
     ("first", include_bytes!("../../examples/first.table")),
     (
         "renumbered",
         include_bytes!("../../examples/renumbered.table"),
     ),
+    ("unmerged", include_bytes!("../../examples/unmerged.table")),
     ("damaged", include_bytes!("../../examples/damaged.table")),
 ];
 

@@ -42,17 +42,20 @@ pub struct OrderHandle(pub u8);
 #[derive(Clone, Copy, Debug, PartialEq, Eq, Hash, PartialOrd, Ord)]
 pub struct SetHandle(pub u8);
 
-/// A state of a table. A plan node carries one.
+/// A state of a table, which is one of its rows. A plan node carries one.
 #[derive(Clone, Copy, Debug, PartialEq, Eq, Hash, PartialOrd, Ord)]
 pub struct StateNumber(pub u8);
 
 /// Builds the table of a query into the output's first bytes, and gives its
-/// length.
+/// length. It is the smallest table: two states of the construction share a row
+/// exactly when no order lookup after any run of sets tells them apart, and
+/// [`verify`] accepts no table with fewer rows.
 ///
-/// On refusal the output keeps its bytes, and those past the table always keep
-/// theirs. Once the checks 1 to 6 and the scratch length have passed, the
-/// scratch's first [`SCRATCH_BYTES`] bytes are 0 afterwards, refused or not; all
-/// others keep theirs.
+/// [`Refusal::States`] counts the states before they are merged, and
+/// [`Refusal::Space`] for output goes by the table written. On refusal the output
+/// keeps its bytes, and those past the table always keep theirs. Once the checks 1
+/// to 6 and the scratch length have passed, the scratch's first [`SCRATCH_BYTES`]
+/// bytes are 0 afterwards, refused or not; all others keep theirs.
 pub fn build(query: &[u8], scratch: &mut [u8], output: &mut [u8]) -> Result<usize, Refusal> {
     value(raw::table_build(query, scratch, output)).map(usize::from)
 }
@@ -62,7 +65,8 @@ pub fn build(query: &[u8], scratch: &mut [u8], output: &mut [u8]) -> Result<usiz
 /// through every run of sets, its answer for each interesting order is the one
 /// that the derivation rules give, uncut. State numbers may differ from those that
 /// [`build`] gives, two rows may behave alike, and rows that no start reaches may
-/// hold anything that the form allows.
+/// hold anything that the form allows. An accepted table has at least as many rows
+/// as the one that [`build`] gives.
 ///
 /// Refuses as [`build`] refuses the query, with [`Refusal::Space`] for scratch
 /// alone; then as [`Table::check`] refuses the table; then with
@@ -73,7 +77,9 @@ pub fn verify(query: &[u8], table: Table, scratch: &mut [u8]) -> Result<(), Refu
 }
 
 /// Writes the listing of a query, or the line that says how it is refused with 1
-/// to 8, into the text's first bytes, and gives the length of what is written.
+/// to 8, into the text's first bytes, and gives the length of what is written. The
+/// count of states is that of the table's rows, and the count of nodes is that of
+/// the construction, before merging.
 ///
 /// Refuses only with [`Refusal::Space`]: for scratch, after the checks 1 to 6,
 /// so that a query that they refuse needs none, and for text. On refusal the text

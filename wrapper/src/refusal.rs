@@ -20,7 +20,8 @@ pub enum Refusal {
     Twin,
     /// The construction has more than 256 nodes.
     Orderings,
-    /// The construction has more than 128 states.
+    /// The construction has more than 128 states, counted before any are merged
+    /// into one row.
     States,
     /// Scratch below 16,384 bytes, or output or text too short.
     Space,

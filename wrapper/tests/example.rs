@@ -18,7 +18,7 @@ fn builds_and_looks_up() {
     let bytes = &output[..example.table.len()];
     assert_eq!(bytes, example.table);
 
-    // Four sizes, two starts, five rows of two successors, five times two bytes
+    // Four sizes, two starts, four rows of two successors, four times two bytes
     // of held bits.
     let table = Table::new(bytes);
     assert_eq!(table.check(), Ok(()));
@@ -28,7 +28,7 @@ fn builds_and_looks_up() {
     assert_eq!(next, Ok(StateNumber(bytes[9])));
     for order in 0..4 {
         let held = table.ask(StateNumber(3), OrderHandle(order));
-        assert_eq!(held, Ok(bytes[22] >> order & 1 == 1));
+        assert_eq!(held, Ok(bytes[20] >> order & 1 == 1));
     }
     let row = table.row(StateNumber(2));
     assert_eq!(row, Ok(&bytes[10..12]));

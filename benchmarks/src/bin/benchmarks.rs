@@ -10,7 +10,7 @@ use benchmarks::reduction::PlanNode;
 use benchmarks::report::{self, number};
 use benchmarks::timing::{take_turns, Builds};
 use order_tables::raw as proved;
-use reference::construction::Construction;
+use reference::builder::constructed;
 use reference::random::Random;
 use reference::samples::renumbered;
 use reference::table::Table;
@@ -25,7 +25,7 @@ const BUILD_TURNS: usize = 500;
 const SLOW_BUILD_TURNS: usize = 20;
 /// Lookups per turn.
 const LOOKUPS: usize = 4096;
-/// The queries whose tables are looked up: few, some and the most states.
+/// The queries whose tables are looked up: few, some and the most rows.
 const LOOKED_UP: [&str; 3] = ["listing_example", "tpcr_query_8", "seven_sets"];
 /// The queries that are asked by reduction too. In the last two a table and a
 /// reduction differ.
@@ -201,21 +201,27 @@ fn builds() {
     println!();
     let mut rows = Vec::new();
     for name in BUILT {
-        let bytes = trials::named(name).query;
-        let query = Query::read(&bytes).expect("the trial's query is read");
-        let construction = Construction::of(&query).expect("the trial's query has a table");
-        let [proved, second] = Builds::new().both_times(turns(name), &bytes);
+        let query = trials::named(name).query;
+        let (construction, table) = constructed(&query).expect("the trial's query has a table");
+        let [proved, second] = Builds::new().both_times(turns(name), &query);
         rows.push([
             name.to_owned(),
             construction.nodes.len().to_string(),
             construction.states.len().to_string(),
+            table.states.len().to_string(),
             number(proved / 1000.0),
             number(second / 1000.0),
             number(proved / second),
         ]);
     }
-    let head = ["Trial", "Nodes", "States", "Proved", "Second", "Ratio"];
-    report::table(head, &rows);
+    println!("States are those of the construction, before merging; rows are those of the table.");
+    println!();
+    report::table(
+        [
+            "Trial", "Nodes", "States", "Rows", "Proved", "Second", "Ratio",
+        ],
+        &rows,
+    );
 }
 
 /// How often builds of this trial take turns.
@@ -241,7 +247,7 @@ fn supplied_tables() {
         let own = Table::read(&built(&query)).expect("a built table has the form");
         let supplied = std::iter::repeat_with(|| renumbered(&mut random, &own))
             .find(|supplied| *supplied != own)
-            .expect("the table has two states");
+            .expect("the table has two rows");
         let [proved, second, build] =
             Builds::new().trial_times(turns(name), &query, &supplied.write());
         rows.push([
@@ -257,7 +263,7 @@ fn supplied_tables() {
     report::table(
         [
             "Trial",
-            "States",
+            "Rows",
             "Proved",
             "Second",
             "Ratio",
@@ -275,14 +281,13 @@ fn section_6_2() {
     println!();
     let bytes = trials::named("tpcr_query_8").query;
     let table = built(&bytes);
-    let query = Query::read(&bytes).expect("the trial's query is read");
-    let nodes = Construction::of(&query).map(|construction| construction.nodes.len());
+    let (construction, _) = constructed(&bytes).expect("the trial's query has a table");
     let rows = [
         ["without pruning", "376", "80", "3040"].map(str::to_owned),
         ["with pruning", "38", "24", "912"].map(str::to_owned),
         [
             "here, cut to 8 produced orders and 8 sets".to_owned(),
-            nodes.expect("the trial's query has a table").to_string(),
+            construction.nodes.len().to_string(),
             table[0].to_string(),
             table.len().to_string(),
         ],

@@ -8,6 +8,7 @@ use std::time::Duration;
 use benchmarks::report::{self, number};
 use benchmarks::timing::Builds;
 use benchmarks::worst::Slowest;
+use reference::builder::table_of;
 use reference::construction::{Construction, Limits};
 use reference::random::Random;
 use reference::Query;
@@ -28,7 +29,7 @@ fn main() {
         slowest.tried
     );
     println!();
-    let rows: Vec<[String; 5]> = slowest
+    let rows: Vec<[String; 6]> = slowest
         .of_each_outcome()
         .map(|slow| row(&slow.query))
         .collect();
@@ -36,6 +37,7 @@ fn main() {
         [
             "Outcome",
             "Nodes, states",
+            "Rows",
             "Proved, µs",
             "Second, µs",
             "Ratio",
@@ -47,18 +49,19 @@ fn main() {
     }
 }
 
-fn row(query: &Query) -> [String; 5] {
+fn row(query: &Query) -> [String; 6] {
     let bytes = query.write();
     let [proved, second] = Builds::new().both_times(TURNS, &bytes);
-    let outcome = match Construction::of(query) {
-        Ok(_) => "table".to_owned(),
-        Err(refusal) => format!("refused {refusal}"),
+    let [outcome, rows] = match table_of(&bytes) {
+        Ok(table) => ["table".to_owned(), table.states.len().to_string()],
+        Err(refusal) => [format!("refused {refusal}"), "none".to_owned()],
     };
     let counts = Construction::within(query, Limits::COUNTING)
         .map(|counted| format!("{}, {}", counted.nodes.len(), counted.states.len()));
     [
         outcome,
         counts.unwrap_or("more than are counted".to_owned()),
+        rows,
         number(proved / 1000.0),
         number(second / 1000.0),
         number(proved / second),

@@ -19,5 +19,5 @@ pub use queries::{
     Shape, QUERY_EDGES,
 };
 pub use rows::rows;
-pub use supplied::{longest_chain, renumbered, supplied, Kind, Supplied};
+pub use supplied::{longest_chain, renumbered, supplied, unmerged, Kind, Supplied};
 pub use tables::{any_table, table_of_sizes, TABLE_EDGES};

@@ -1,6 +1,7 @@
 //! Tables that a supplier may send for a query: right ones that differ from the
 //! query's own, ones with a change, and ones that are far from it.
 
+use crate::construction::Construction;
 use crate::query::Query;
 use crate::random::Random;
 use crate::refusal;
@@ -21,6 +22,8 @@ const MANY_ROWS: usize = 128;
 pub enum Kind {
     /// The query's own table.
     Own,
+    /// It has a row for each state of the construction.
+    Unmerged,
     /// Its states are numbered otherwise.
     Renumbered,
     /// Some of its rows come twice or more.
@@ -54,8 +57,9 @@ pub enum Kind {
 
 impl Kind {
     /// All kinds.
-    pub const ALL: [Self; 15] = [
+    pub const ALL: [Self; 16] = [
         Self::Own,
+        Self::Unmerged,
         Self::Renumbered,
         Self::TwinRows,
         Self::Chain,
@@ -87,6 +91,7 @@ pub fn supplied(random: &mut Random, kind: Kind, query: &Query, own: &Table) -> 
     let accepted = |table: Table| (table.write(), Some(Ok(())));
     let (table, known) = match kind {
         Kind::Own => accepted(own.clone()),
+        Kind::Unmerged => accepted(unmerged(query)),
         Kind::Renumbered => accepted(renumbered(random, own)),
         Kind::TwinRows => accepted(with_twin_rows(random, own)),
         Kind::Chain => accepted(with_a_chain(random, own)),
@@ -131,6 +136,13 @@ pub fn supplied(random: &mut Random, kind: Kind, query: &Query, own: &Table) -> 
         Kind::Random => (any_table(random), None),
     };
     Supplied { table, known }
+}
+
+/// The table with a row for each state of a query's construction, which must be
+/// within the limits.
+pub fn unmerged(query: &Query) -> Table {
+    let construction = Construction::of(query).expect("the query has a table");
+    Table::of(query, &construction)
 }
 
 /// A right table: any of the ways to differ from the query's own, in turn.
@@ -329,9 +341,10 @@ fn leading(mut table: Table, mut to: impl FnMut(u8) -> u8) -> Table {
     table
 }
 
-/// A query with one order and an empty set, and a right table for it, in which
-/// the set leads from state to state through as many as there may be.
-pub fn longest_chain() -> (Query, Table) {
+/// A query with one order and an empty set, and two tables for it, in which the
+/// set leads from state to state through as many as there may be. The first table
+/// is right, and the second one wrong in the last state.
+pub fn longest_chain() -> (Query, [Table; 2]) {
     let query = Query {
         columns: 1,
         produced: vec![vec![]],
@@ -343,11 +356,13 @@ pub fn longest_chain() -> (Query, Table) {
         successors: vec![next.min(MOST_STATES - 1) as u8],
         held: 1,
     });
-    let table = Table {
+    let right = Table {
         tested: 0,
         sets: 1,
         starts: vec![0],
         states: states.collect(),
     };
-    (query, table)
+    let mut wrong = right.clone();
+    wrong.states[MOST_STATES - 1].held = 0;
+    (query, [right, wrong])
 }
