@@ -21,22 +21,28 @@ use Rattle.theory.proofs.DemandThree.{query-limited}
 use Rattle.merging.specs.Rows.{Mergeable}
 use Rattle.closure.specs.Work.{nodesOf, statesOf, contentsOf}
 use Rattle.construction.specs.declared.Constructed.{Constructed}
-use Rattle.construction.specs.Constructed.{answerOf, Leaves, StatesStored}
+use Rattle.construction.specs.declared.Numbered.{Numbered}
+use Rattle.construction.specs.Constructed.{answerOf, Leaves, StatesStored, noStates, Kept}
 
 -- a refusal leaves no table
-leaves-refused : {o : theory.Constructed} {work : Bytes} {r : Constructed} (n : ℕ) → o ≡ too-many n → r ≡ answerOf (too-many n) → Leaves o work r
-leaves-refused {o} {work} {r} n e a =
+pub refused-left : {o : theory.Constructed} {work : Bytes} {r : Constructed} (n : ℕ) → o ≡ too-many n → r ≡ answerOf (too-many n) → Leaves o work r
+refused-left {o} {work} {r} n e a =
     subst (λ k. Leaves k work r) (sym e) (record { answer = a; stored = λ t m d. let z : _≡_ {A = ℕ} 0 1 = cc in let f : ⊥ = omega arith in absurd f })
 
+-- a refusal keeps no states
+kept-refused : {b work : Bytes} {r : Numbered} (n : ℕ) → 0 < n → construct (readQuery b) ≡ too-many n → r ≡ noStates n → Kept b work r
+kept-refused {b} {work} n h e a =
+    subst (Kept b work) (sym a) (record { refused = λ f. e; stored = λ p. let z : ⊥ = omega arith in absurd z })
+
 module _ (b : Bytes) where
-  pub nodes-many-left : {work : Bytes} {r : Constructed} → maxNodes < length (nodesOf b) → r ≡ answerOf (too-many orderings-refused) → Leaves (construct (readQuery b)) work r
+  pub nodes-many-kept : {work : Bytes} {r : Numbered} → maxNodes < length (nodesOf b) → r ≡ noStates orderings-refused → Kept b work r
   unfolding construct
-  nodes-many-left h a = leaves-refused orderings-refused (rw (lt-ltb maxNodes (length (nodesOf b)) h, construct)) a
+  nodes-many-kept h a = kept-refused orderings-refused (omega arith) (rw (lt-ltb maxNodes (length (nodesOf b)) h, construct)) a
 
   module _ (few : length (nodesOf b) ≤ maxNodes) where
-    pub states-many-left : {work : Bytes} {r : Constructed} → maxStates < length (statesOf b) → r ≡ answerOf (too-many states-refused) → Leaves (construct (readQuery b)) work r
+    pub states-many-kept : {work : Bytes} {r : Numbered} → maxStates < length (statesOf b) → r ≡ noStates states-refused → Kept b work r
     unfolding construct
-    states-many-left h a = leaves-refused states-refused (rw (le-ltb maxNodes (length (nodesOf b)) few, lt-ltb maxStates (length (statesOf b)) h, construct)) a
+    states-many-kept h a = kept-refused states-refused (omega arith) (rw (le-ltb maxNodes (length (nodesOf b)) few, lt-ltb maxStates (length (statesOf b)) h, construct)) a
 
     table-made : length (statesOf b) ≤ maxStates → construct (readQuery b) ≡ table (queryTable (readQuery b)) (length (nodesOf b))
     unfolding construct

@@ -4,12 +4,13 @@ use mathlib.Core.Path.{_≡_}
 use lib.ListN.{length}
 use Rattle.theory.specs.Limits.{maxNodes, maxStates}
 use Rattle.theory.specs.Refusals.{passed}
-use Rattle.theory.specs.Query.{Bytes, queryRefusal}
+use Rattle.theory.specs.Query.{Bytes, readQuery, queryRefusal}
 use Rattle.theory.specs.Table.{Table}
 use Rattle.theory.specs.Scratch.{Stored}
 use Rattle.theory.specs.Build as theory
 use Rattle.closure.specs.Work.{nodesOf, statesOf, contentsOf}
 use Rattle.construction.specs.declared.Constructed.{Constructed}
+use Rattle.construction.specs.declared.Numbered.{Numbered}
 
 -- The refusal, or 0; and the counts of rows and nodes, which are 0 on refusal.
 abbrev pub answerOf : theory.Constructed → Constructed
@@ -29,3 +30,12 @@ pub record StatesStored (b work : Bytes) (q n : ℕ) : Type 0 where
   pub node-count : length (nodesOf b) ≡ n
   pub state-count : length (statesOf b) ≡ q
   pub stored : Stored (contentsOf b) work
+
+-- A refusal, and no states.
+abbrev pub noStates : ℕ → Numbered
+noStates n = record { refusal = n; states = 0; nodes = 0 }
+
+-- The construction is refused with the number, or the scratch has the table of its states.
+pub record Kept (b work : Bytes) (r : Numbered) : Type 0 where
+  pub refused : (r .refusal ≡ passed → ⊥) → theory.construct (readQuery b) ≡ theory.too-many (r .refusal)
+  pub stored : r .refusal ≡ passed → StatesStored b work (r .states) (r .nodes)

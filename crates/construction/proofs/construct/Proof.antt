@@ -1,40 +1,32 @@
--- `construction::construct` meets its contract: there are too many nodes, or the states follow.
-use mathlib.Core.Path.{refl}
-use denote.Ref.{now}
+-- `construction::construct` meets its contract: the states are refused, or their rows are merged.
+use Rattle.construction.proofs.LeavesLaws.{refused-left}
 use borrow.Author.Needs.{needs}
-use Rattle.construction.proofs.LeavesLaws.{nodes-many-left}
 use Rattle.construction.proofs.construct.Statement.{statement}
 use Rattle.construction.proofs.construct.Tie as tie
+use Rattle.construction.proofs.construct.Reads as reads
+use Rattle.construction.proofs.construct.Lts as lts
+use Rattle.construction.proofs.merged.Reads as merged-reads
+use Rattle.construction.proofs.number.Reads as number-reads
+use Rattle.construction.proofs.refused.Reads as refused-reads
 
-wanted-requires : tie.Need-wanted-requires
-wanted-requires c κs = search needs
-
-longest-requires : tie.Need-longest-requires
-longest-requires c κs = search needs
-
-slice-aggregate-list : tie.Need-slice-aggregate-list
-slice-aggregate-list c = search needs
-
-list-requires : tie.Need-list-requires
-list-requires c κs = search needs
+number-requires : tie.Need-number-requires
+number-requires c κs = search needs
 
 refused-requires : tie.Need-refused-requires
 refused-requires c κs = search needs
 
-returns : tie.Need-returns
-returns c = let s = c .before .before .before .before .before .before .before .before .before in
-    (nodes-many-left (now (s .args .query)) (c .before .before .before .list2 .ensures .over (c .before .if1 .taken)) (c .refused .ensures), refl)
-
-slice-aggregate-with-nodes : tie.Need-slice-aggregate-with-nodes
-slice-aggregate-with-nodes c = search needs
-
-with-nodes-requires : tie.Need-with-nodes-requires
-with-nodes-requires c κs = let l = c .before .before .before .before in let s = l .before .before .before .before .before .before in
-    let longest = l .before .before .longest .ensures in
-    (record { prepared = record { checked = s .pre .0; mask = l .before .before .before .wanted .ensures; depth = longest .0; shallow = longest .1 }; listed = l .list2 .ensures .fits (c .before .before .if1 .left) }, s .pre .1)
-
 same-length : tie.Need-same-length
 same-length c = search needs
+
+returns : tie.Need-returns
+returns c = let n = c .before .before .before .before .number in
+    (refused-left (n .result .refusal) (n .ensures .0 .refused (c .before .if1 .taken)) (c .refused .ensures), n .ensures .1)
+
+merged-requires : tie.Need-merged-requires
+merged-requires c κs = c .before .before .before .before .number .ensures .0 .stored (c .before .if1 .left)
+
+same-length-2 : tie.Need-same-length-2
+same-length-2 c = search needs
 
 returns-2 : tie.Need-returns-2
 returns-2 c = search needs
@@ -43,13 +35,10 @@ pub construct-spec : {M : Type 1} → statement M
 construct-spec =
     tie.close
     (tie.spec
-    wanted-requires
-    longest-requires
-    slice-aggregate-list
-    list-requires
+    number-requires
     refused-requires
-    returns
-    slice-aggregate-with-nodes
-    with-nodes-requires
     same-length
+    returns
+    merged-requires
+    same-length-2
     returns-2)

@@ -1,7 +1,7 @@
--- `construction::with_nodes` meets its contract: there are too many states, or starts and held words are stored behind the successors, and merged.
+-- `construction::with_nodes` meets its contract: there are too many states, or starts and held words are stored behind the successors.
 use Prim.Native.Nat.{_≤_}
 use native.Mathlib.Omega.{arith}
-use mathlib.Core.Path.{_≡_, sym, _∙_, ap, subst}
+use mathlib.Core.Path.{_≡_, refl, sym, _∙_, ap, subst}
 use lib.ListN.{length}
 use denote.Ref.{now}
 use borrow.Author.Needs.{needs}
@@ -13,8 +13,8 @@ use Rattle.byte_rows.proofs.PlacedLaws.{placed-row, placed-length}
 use Rattle.nodes.proofs.NodeKeys.{nodes-count}
 use Rattle.closure.specs.Work.{nodesOf, contentsOf}
 use Rattle.construction.specs.Held.{heldBefore}
-use Rattle.construction.proofs.StoreLaws.{state-count, rows-kept, all-stored}
-use Rattle.construction.proofs.LeavesLaws.{states-many-left}
+use Rattle.construction.proofs.StoreLaws.{state-count, rows-kept, held-length, all-stored}
+use Rattle.construction.proofs.LeavesLaws.{states-many-kept}
 use Rattle.construction.proofs.with_nodes.Statement.{statement}
 use Rattle.construction.proofs.with_nodes.Tie as tie
 
@@ -28,8 +28,8 @@ slice-aggregate-number c = search needs
 number-requires : tie.Need-number-requires
 number-requires c κs = search needs
 
-refused-requires : tie.Need-refused-requires
-refused-requires c κs = search needs
+unnumbered-requires : tie.Need-unnumbered-requires
+unnumbered-requires c κs = search needs
 
 same-length : tie.Need-same-length
 same-length c = search needs
@@ -37,7 +37,7 @@ same-length c = search needs
 returns : tie.Need-returns
 returns c = let n = c .before .before .before .before .before in let s = n .before .before .before .before .before .before in
     let e = n .number .ensures in
-    (states-many-left (now (s .args .query)) (few s) (e .0 .over (c .before .if1 .taken)) (c .refused .ensures), e .1)
+    (states-many-kept (now (s .args .query)) (few s) (e .0 .over (c .before .if1 .taken)) (c .unnumbered .ensures), e .1)
 
 slice-aggregate-copy : tie.Need-slice-aggregate-copy
 slice-aggregate-copy c = search needs
@@ -56,8 +56,11 @@ store-requires c κs = let p = c .before .before .before in let n = p .before .b
     let wide = ap length put ∙ placed-length startsPart starts work (omega (arith, e .2, s .pre .1)) in
     (record { wanted = s .args .wanted; depth = s .args .longest; ready = s .pre .0 }, are .few, rw put (rows-kept (n .number .result) startsPart starts work (omega (arith, are .few)) (omega (arith, s .pre .1)) ∙ are .rows), omega (arith, wide, long, s .pre .1))
 
-merged-requires : tie.Need-merged-requires
-merged-requires c κs = let t = c .before .before .before in let p = t .before .before .before .before in let n = p .before .before .before .before .before .before .before in let s = n .before .before .before .before .before .before in
+same-length-2 : tie.Need-same-length-2
+same-length-2 c = search needs
+
+returns-2 : tie.Need-returns-2
+returns-2 c = let t = c .before .before in let p = t .before .before .before .before in let n = p .before .before .before .before .before .before .before in let s = n .before .before .before .before .before .before in
     let e = n .number .ensures in
     let b = now (s .args .query) in
     let q = n .number .result in
@@ -68,20 +71,21 @@ merged-requires c κs = let t = c .before .before .before in let p = t .before .
     let all = t .store .ensures ∙ ap (placed heldPart (heldBefore b q)) put in
     let sizes = query-sizes b (s .pre .0 .prepared .checked) in
     let stored = all-stored are (omega (arith, e .1, s .pre .1)) (e .2) (omega (arith, set-count b, sizes .few-sets)) (omega (arith, produced-count b, sizes .few-produced)) in
-    record {
-      checked = s .pre .0 .prepared .checked;
-      few-nodes = s .pre .0 .listed .few;
-      few-states = are .few;
-      node-count = nodes-count (s .pre .0 .listed);
-      state-count = state-count b work q (are .rows);
-      stored = subst (Stored (contentsOf b)) (sym all) stored;
-    }
-
-same-length-2 : tie.Need-same-length-2
-same-length-2 c = search needs
-
-returns-2 : tie.Need-returns-2
-returns-2 c = search needs
+    let wide = placed-length startsPart starts work (omega (arith, e .1, e .2, s .pre .1)) in (
+      record {
+        refused = λ f. absurd (f refl);
+        stored = λ p.
+            record {
+              checked = s .pre .0 .prepared .checked;
+              few-nodes = s .pre .0 .listed .few;
+              few-states = are .few;
+              node-count = nodes-count (s .pre .0 .listed);
+              state-count = state-count b work q (are .rows);
+              stored = subst (Stored (contentsOf b)) (sym all) stored;
+            };
+      },
+      ap length all ∙ placed-length heldPart (heldBefore b q) (placed startsPart starts work) (omega (arith, held-length b q, wide, are .few, e .1, s .pre .1)) ∙ wide ∙ e .1,
+    )
 
 pub with-nodes-spec : {M : Type 1} → statement M
 with-nodes-spec =
@@ -89,12 +93,11 @@ with-nodes-spec =
     (tie.spec
     slice-aggregate-number
     number-requires
-    refused-requires
+    unnumbered-requires
     same-length
     returns
     slice-aggregate-copy
     copy-requires
     store-requires
-    merged-requires
     same-length-2
     returns-2)
