@@ -13,8 +13,8 @@ use Rattle.theory.specs.Build.{zeroed}
 use Rattle.theory.specs.Query.{Bytes, byteAt}
 use Rattle.theory.specs.Table.{Table, countsOf, numbersOf, number}
 use Rattle.theory.proofs.RowLaws.{entries}
-use Rattle.theory.proofs.MachineLaws.{below-tail}
-use Rattle.theory.proofs.MergingLaws.{alike-held, alike-next, classes-are}
+use Rattle.theory.proofs.MachineLaws.{below-tail, alike-held, alike-next}
+use Rattle.theory.proofs.MergingLaws.{classes-are}
 use Rattle.byte_rows.proofs.PlacedLaws.{placed-row, placed-whole}
 use Rattle.likeness.specs.Classes.{Unmerged, Like, FirstLike, total, Refined}
 use Rattle.likeness.proofs.ClassLaws.{like-sym, like-trans, first-same, first-again, total-few}

@@ -1,27 +1,25 @@
 -- Merging from the classes that are found: the numbers of the rows are those of the merged table, and the steps in the scratch leave it there.
-use Prim.Native.Nat.{ℕ, _+_, _*_, _≤_, _<_}
+use Prim.Native.Nat.{ℕ, _*_, _≤_, _<_}
 use native.Mathlib.Omega.{arith}
 use mathlib.Core.Path.{_≡_, sym, _∙_, ap, ap₂, subst}
 use mathlib.Core.List.{List, [], map, flatten}
 use lib.Dec.{eqb}
-use lib.ListN.{length, take, drop, getD}
-use lib.Seq.{getD-take, getD-drop}
+use lib.ListN.{length, take, getD}
+use lib.Seq.{getD-take}
 use Rattle.theory.specs.Tests.{position, upFrom}
 use Rattle.theory.specs.Closure.{addAll}
-use Rattle.theory.specs.Limits.{maxStates, maxSets, heldWidth}
+use Rattle.theory.specs.Limits.{maxStates, heldWidth}
 use Rattle.theory.specs.Query.{Bytes, byteAt, rowAt}
 use Rattle.theory.specs.Table.{Table, tableOf, countsOf, numbersOf}
-use Rattle.theory.specs.Merging.{classes, mergedOf, rowsOf, rowOf, mergeTable}
-use Rattle.theory.specs.Scratch.{successorsPart, startsPart, heldPart, workLength, Stored}
-use Rattle.theory.proofs.ListLaws.{member-getD}
-use Rattle.theory.proofs.RowLaws.{all-flatten}
-use Rattle.theory.proofs.WalkImage.{map-below}
+use Rattle.theory.specs.Merging.{classes, rowsOf, rowOf, mergeTable}
+use Rattle.theory.specs.Scratch.{successorsPart, startsPart, heldPart, Stored}
+use Rattle.theory.proofs.RangeLaws.{map-below}
 use Rattle.theory.proofs.MergingLaws.{class-within, class-again, merge-is}
 use Rattle.byte_rows.specs.Placed.{placed}
 use Rattle.compaction.specs.Firsts.{firstsIn}
 use Rattle.merging.specs.Rows.{Mergeable, rowsIn, FirstOfClass, RowNumbers, renumbered, movedRows, Movable}
 use Rattle.merging.proofs.NumberLaws.{row-stays, firsts-rows}
-use Rattle.merging.proofs.StoredLaws.{long, few-sets, few-starts, start-low, successor-low, successors-read, merged-stored}
+use Rattle.merging.proofs.StoredLaws.{long, few-sets, few-starts, start-low, successor-low, merged-stored}
 
 module _ {t : Table} {work : Bytes} {q produced sets : ℕ} (m : Mergeable t work q produced sets) (cs : Bytes) (found : take q cs ≡ classes (countsOf t) (numbersOf t) q) where
   abbrev class : ℕ → ℕ
@@ -68,7 +66,7 @@ module _ {t : Table} {work : Bytes} {q produced sets : ℕ} (m : Mergeable t wor
 
 -- the parts can be moved, by numbers for every state
 pub movable : {t : Table} {work : Bytes} {q produced sets : ℕ} → Mergeable t work q produced sets → (numbers : Bytes) → length numbers ≡ maxStates → Movable work numbers q produced sets
-movable {work = work} m numbers e =
+movable m numbers e =
     let few = few-sets m in
     record {
       long = long m;
@@ -77,5 +75,5 @@ movable {work = work} m numbers e =
       few-successors = omega arith;
       few-starts = omega (arith, few-starts m, m .produced-count);
       starts = λ i h. omega (arith, start-low m i h);
-      successors = λ i h. omega (arith, successor-low m work (successors-read m) i h);
+      successors = λ i h. omega (arith, successor-low m i h);
     }

@@ -5,16 +5,16 @@ use native.Mathlib.Numerals.{add-one}
 use native.Mathlib.Omega.{arith}
 use mathlib.Core.Path.{_≡_, refl, sym, _∙_, ap, subst}
 use mathlib.Core.Bool.{Bool, true, false}
-use mathlib.Core.List.{List, [], _∷_, _++_, map, List·Memᴰ, List·Memᴰ·not-nil, Memᴰ·cast, Memᴰ·map, IsPrefix}
-use lib.Dec.{eqb, ltb}
+use mathlib.Core.List.{[], _∷_, _++_, map, List·Memᴰ, List·Memᴰ·not-nil, Memᴰ·map, IsPrefix}
+use lib.Dec.{eqb}
 use lib.ListN.{length, set, length-append}
 use lib.Seq.{getD-set-same, getD-set-other}
-use borrow.Author.Tests.{lt-ltb, le-ltb, eq-eqb, ne-eqb}
+use borrow.Author.Tests.{eq-eqb, ne-eqb}
 use Rattle.theory.specs.Tests.{Says, holds, fails, pick, position, upFrom}
 use Rattle.theory.specs.Closure.{add, addAll}
 use Rattle.theory.specs.Query.{Bytes, byteAt}
 use Rattle.theory.proofs.Reflect.{says-ltb, decides-number}
-use Rattle.theory.proofs.ListLaws.{prefix-refl, prefix-trans, upFrom-member}
+use Rattle.theory.proofs.ListLaws.{upFrom-member}
 use Rattle.theory.proofs.RangeLaws.{map-more, map-begun}
 use Rattle.theory.proofs.ClosureLaws.{addAll-append, addAll-has, addAll-keeps}
 use Rattle.theory.proofs.PositionLaws.{add-known, add-new, add-all, position-new, position-bound, position-grows}

@@ -13,13 +13,12 @@ use Rattle.theory.specs.Query.{Bytes, byteAt, rowAt}
 use Rattle.theory.specs.Table.{Table, Sized, Numbered, tableOf, countsOf, numbersOf, heldBytes}
 use Rattle.theory.specs.Merging.{classes, mergedOf, rowsOf, rowOf, mergeTable}
 use Rattle.theory.specs.Scratch.{successorsPart, startsPart, heldPart, workLength, Stored}
-use Rattle.theory.proofs.ListLaws.{member-getD, upFrom-length}
+use Rattle.theory.proofs.ListLaws.{member-getD, map-members}
 use Rattle.theory.proofs.RowLaws.{getD-map, entries, all-flatten, flatten-length, row-of-rows}
 use Rattle.theory.proofs.RangeLaws.{entry-count}
 use Rattle.theory.proofs.MachineLaws.{reached-inside}
-use Rattle.theory.proofs.SmallestTable.{map-members}
 use Rattle.theory.proofs.MergingLaws.{merged-inside, rows-known, merge-is}
-use Rattle.theory.proofs.MergedRows.{added-few}
+use Rattle.theory.proofs.PositionLaws.{added-few}
 use Rattle.byte_rows.specs.Placed.{placed}
 use Rattle.byte_rows.proofs.PlacedLaws.{placed-length, part-before, part-behind, part-placed}
 use Rattle.merging.specs.Rows.{Mergeable}
@@ -63,7 +62,7 @@ module _ {t : Table} {work : Bytes} {q produced sets : ℕ} (m : Mergeable t wor
   row-low : (c : ℕ) → List·Memᴰ c rows → c < t .stateCount
   row-low c i = reached-inside (merged-inside t sized closed) c (rows-known t sized closed .exactly c .0 i)
 
-  pub rows-few : length rows ≤ t .stateCount
+  rows-few : length rows ≤ t .stateCount
   rows-few =
       let class : ℕ → ℕ = λ x. getD (classes (countsOf t) (numbersOf t) (t .stateCount)) x 0 in
       let few = added-few eqb (map class (upFrom 0 (t .stateCount))) [] in
@@ -83,10 +82,10 @@ module _ {t : Table} {work : Bytes} {q produced sets : ℕ} (m : Mergeable t wor
   few-starts = sized .few-produced
 
   -- the starts and the successors as they lie there, each of them a state
-  pub start-bytes : take produced (drop startsPart work) ≡ t .starts
+  start-bytes : take produced (drop startsPart work) ≡ t .starts
   start-bytes = ap (λ n. take n (drop startsPart work)) (sym (m .produced-count)) ∙ m .unmerged .stored .starts
 
-  pub successors-read : take (q * sets) (drop successorsPart work) ≡ flatten (t .successors)
+  successors-read : take (q * sets) (drop successorsPart work) ≡ flatten (t .successors)
   successors-read = ap₂ (λ a b. take (a * b) (drop successorsPart work)) (sym (m .unmerged .states)) (sym (m .unmerged .set-count)) ∙ m .unmerged .stored .successors
 
   pub start-low : (i : ℕ) → i < produced → byteAt work (startsPart + i) < maxStates
@@ -95,9 +94,9 @@ module _ {t : Table} {work : Bytes} {q produced sets : ℕ} (m : Mergeable t wor
       let low = closed .starts-below (getD (t .starts) i 0) (member-getD (t .starts) i 0 (omega (arith, sized .starts-count, m .produced-count))) in
       omega (arith, read, low, sized .few-states)
 
-  pub successor-low : (w : Bytes) → take (q * sets) (drop successorsPart w) ≡ flatten (t .successors) → (i : ℕ) → i < q * sets → byteAt w (successorsPart + i) < maxStates
-  successor-low w e i h =
-      let read = sym (getD-take (q * sets) (drop successorsPart w) i 0 h ∙ getD-drop successorsPart w i 0) ∙ ap (λ l. getD l i 0) e in
+  pub successor-low : (i : ℕ) → i < q * sets → byteAt work (successorsPart + i) < maxStates
+  successor-low i h =
+      let read = sym (getD-take (q * sets) (drop successorsPart work) i 0 h ∙ getD-drop successorsPart work i 0) ∙ ap (λ l. getD l i 0) successors-read in
       let wide = flatten-length (t .setCount) (t .successors) (sized .row-width) ∙ ap₂ _*_ (sized .rows-count ∙ m .unmerged .states) (m .unmerged .set-count) in
       let low = all-flatten (t .successors) (closed .successors-below) (getD (flatten (t .successors)) i 0) (member-getD (flatten (t .successors)) i 0 (omega arith)) in
       omega (arith, read, low, sized .few-states)
@@ -108,7 +107,7 @@ module _ {t : Table} {work : Bytes} {q produced sets : ℕ} (m : Mergeable t wor
     to-rows l h = map-members (byteAt numbers) (rowOf t) l (λ x i. each x (omega (arith, h x i, m .unmerged .states)))
 
     -- the numbers of the starts and of the successors
-    pub merged-starts : map (byteAt numbers) (t .starts) ≡ map (λ p. position eqb (mergedOf t .start p) rows) (upFrom 0 (t .producedCount))
+    merged-starts : map (byteAt numbers) (t .starts) ≡ map (λ p. position eqb (mergedOf t .start p) rows) (upFrom 0 (t .producedCount))
     merged-starts = to-rows (t .starts) (closed .starts-below) ∙ sym (map-entries (rowOf t) 0 (t .starts) (t .producedCount) (sized .starts-count))
 
     merged-row : (c : ℕ) → c < t .stateCount → map (byteAt numbers) (getD (t .successors) c []) ≡ map (λ s. position eqb (mergedOf t .next c s) rows) (upFrom 0 (t .setCount))
@@ -139,7 +138,7 @@ module _ {t : Table} {work : Bytes} {q produced sets : ℕ} (m : Mergeable t wor
     abbrev keptWords : Bytes
     keptWords = flatten (map (λ x. rowAt heldPart heldWidth x third) rows)
 
-    abbrev pub fourth : Bytes
+    abbrev fourth : Bytes
     fourth = placed heldPart keptWords third
 
     start-count : length startNumbers ≡ t .producedCount
@@ -206,7 +205,7 @@ module _ {t : Table} {work : Bytes} {q produced sets : ℕ} (m : Mergeable t wor
         (λ r i. let k = Memᴰ·of-map (λ x. rowAt heldPart heldWidth x third) rows i in ap length (sym (k .2) ∙ held-kept (k .0) (row-low (k .0) (k .1))))
         ∙ ap (λ n. n * heldWidth) (length-map rows (λ x. rowAt heldPart heldWidth x third))
 
-    pub fourth-long : length fourth ≡ length work
+    fourth-long : length fourth ≡ length work
     fourth-long =
         placed-length heldPart keptWords third (omega (arith, held-long, rows-few, sized .few-states, third-long, long)) ∙ third-long
 

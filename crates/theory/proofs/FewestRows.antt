@@ -7,11 +7,11 @@ use lib.ListN.{length}
 use Rattle.theory.specs.Tests.{Decides, position}
 use Rattle.theory.specs.Limits.{maxStates}
 use Rattle.theory.specs.Orders.{Query}
-use Rattle.theory.specs.Machine.{Sizes, Machine, numberedWithin, Alike, Reduced, SameAnswers}
+use Rattle.theory.specs.Machine.{Machine, numberedWithin, Alike, Reduced, SameAnswers}
 use Rattle.theory.specs.Construction.{Marks, sameMarks, State, nodes, states, sizesOf, construction}
 use Rattle.theory.specs.Refusals.{passed}
 use Rattle.theory.specs.Query.{Bytes, readQuery}
-use Rattle.theory.specs.Table.{Table, tableOf, countsOf, numbersOf, machineIn, statesIn, writeTable}
+use Rattle.theory.specs.Table.{tableOf, numbersOf, machineIn, statesIn, writeTable}
 use Rattle.theory.specs.Merging.{rowsOf, rowOf}
 use Rattle.theory.specs.Build.{statesTable, built, outcome}
 use Rattle.theory.specs.Verification.{verifyRefusal}

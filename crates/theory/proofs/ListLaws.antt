@@ -1,11 +1,11 @@
--- Facts about lists as sets: membership under take and drop, beginnings, and the pigeonhole.
-use Prim.Native.Nat.{ℕ, zero, suc, _+_, _≤_, _<_, zero-le, suc-le-suc}
-use native.Mathlib.Nat.{le-of-suc-le-suc, not-suc-le-zero, eq-or-lt-of-le}
+-- Facts about lists as sets: membership under take and drop, beginnings, different things and their images, pairs, and the pigeonhole.
+use Prim.Native.Nat.{ℕ, zero, suc, _+_, _≤_, _<_, zero-le, suc-le-suc, _*_}
+use native.Mathlib.Nat.{le-of-suc-le-suc, not-suc-le-zero, eq-or-lt-of-le, zero-mul, suc-mul}
 use native.Mathlib.Omega.{arith}
-use mathlib.Core.Path.{_≡_, refl, sym, _∙_, ap, subst}
+use mathlib.Core.Path.{_≡_, refl, sym, _∙_, ap, subst, ap₂}
 use mathlib.Core.Logic.{⊎-elim}
 use mathlib.Core.List.{List, [], _∷_, _++_, map, List·Memᴰ, List·Memᴰ·head, List·Memᴰ·tail, List·Memᴰ·not-nil, List·Memᴰ·cases-cons, List·Memᴰ·append-cases, List·Memᴰ·eq-of-singleton, Memᴰ·append-left, Memᴰ·append-right, Memᴰ·cast, Memᴰ·map, Memᴰ·of-map, append-nil, append-assoc, IsPrefix, flatten}
-use lib.ListN.{length, drop, getD, length-append, List·getD-append}
+use lib.ListN.{length, drop, getD, length-append, List·getD-append, length-map}
 use Rattle.theory.specs.Tests.{Distinct, empty, also, upFrom}
 
 module _ {A : Type 0} where
@@ -89,6 +89,42 @@ module _ {A : Type 0} where
   unfolding flatten
   flatten-member {x} {l} (List·Memᴰ·head {x = k} {xs = ls} e) m = Memᴰ·append-left (flatten ls) (subst (λ (j : List A). List·Memᴰ x j) e m)
   flatten-member (List·Memᴰ·tail {x = k} n) m = Memᴰ·append-right k (flatten-member n m)
+
+module _ {A : Type 0} where
+  -- different things stand at different numbers
+  pub distinct-apart : {l : List A} (d : A) → Distinct l → (i k : ℕ) → i < length l → k < i → getD l i d ≡ getD l k d → ⊥
+  distinct-apart {l = x ∷ xs} d (also n r) zero k h l e = absurd (not-suc-le-zero l)
+  distinct-apart {l = x ∷ xs} d (also n r) (suc i) zero h l e = n (Memᴰ·cast (sym e) (member-getD xs i d (le-of-suc-le-suc h)))
+  distinct-apart {l = x ∷ xs} d (also n r) (suc i) (suc k) h l e = distinct-apart d r i k (le-of-suc-le-suc h) (le-of-suc-le-suc l) e
+
+module _ {A B : Type 0} where
+  -- functions that agree on a list give the same list
+  pub map-members : (g h : A → B) (l : List A) → ((x : A) → List·Memᴰ x l → g x ≡ h x) → map g l ≡ map h l
+  map-members g h [] e = refl
+  map-members g h (x ∷ l) e = ap₂ _∷_ (e x (List·Memᴰ·head refl)) (map-members g h l (λ y i. e y (List·Memᴰ·tail i)))
+
+  -- what tells the elements of a list apart gives different things
+  pub distinct-map : (f : A → B) {l : List A} → Distinct l → ((x y : A) → List·Memᴰ x l → List·Memᴰ y l → f x ≡ f y → x ≡ y) → Distinct (map f l)
+  distinct-map f empty told = empty
+  distinct-map f (also {x} {xs} n d) told =
+      also (λ i. let r = Memᴰ·of-map f xs i in n (Memᴰ·cast (sym (told (r .0) x (List·Memᴰ·tail (r .1)) (List·Memᴰ·head refl) (r .2))) (r .1)))
+      (distinct-map f d (λ y w i j. told y w (List·Memᴰ·tail i) (List·Memᴰ·tail j)))
+
+  -- every pair of an element of the one list and an element of the other
+  pub products : List A → List B → List (A × B)
+  products [] ys = []
+  products (x ∷ xs) ys = map (λ y. (x, y)) ys ++ products xs ys
+
+  pub products-length : (xs : List A) (ys : List B) → length (products xs ys) ≡ length xs * length ys
+  unfolding products
+  products-length [] ys = sym (zero-mul (length ys))
+  products-length (x ∷ xs) ys = simp (length-append, length-map, suc-mul, products-length xs ys) (omega arith)
+
+  pub products-member : {x : A} {y : B} {xs : List A} {ys : List B} → List·Memᴰ x xs → List·Memᴰ y ys → List·Memᴰ {A = A × B} (x, y) (products xs ys)
+  unfolding products
+  products-member {y} {ys} (List·Memᴰ·head {x = w} {xs = rest} e) j =
+      Memᴰ·append-left (products rest ys) (subst (λ v. List·Memᴰ {A = A × B} (v, y) (map (λ u. (w, u)) ys)) (sym e) (Memᴰ·map (λ u. (w, u)) j))
+  products-member {ys} (List·Memᴰ·tail {x = w} i) j = Memᴰ·append-right (map (λ u. (w, u)) ys) (products-member i j)
 
 module _ {A B : Type 0} (f : A → List B) where
   -- an element of what f gives along a list is given at one of its elements

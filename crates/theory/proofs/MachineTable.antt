@@ -1,9 +1,9 @@
 -- The table of a machine arrives where the machine arrives and holds what it holds: first its numbers, then its bytes.
 use Prim.Native.Nat.{ℕ, _+_, _≤_, _<_}
 use native.Mathlib.Omega.{arith}
-use mathlib.Core.Path.{_≡_, refl, sym, _∙_, ap, subst}
+use mathlib.Core.Path.{_≡_, sym, _∙_, ap, subst}
 use mathlib.Core.Logic.{_↔_}
-use mathlib.Core.List.{List, [], _∷_, map, List·Memᴰ, List·Memᴰ·head, Memᴰ·of-map}
+use mathlib.Core.List.{List, [], map, List·Memᴰ, Memᴰ·of-map}
 use lib.ListN.{length, getD, length-map}
 use Rattle.theory.specs.Tests.{Decides, position, upFrom}
 use Rattle.theory.specs.Limits.{maxStates, maxProduced, maxTested, maxSets}

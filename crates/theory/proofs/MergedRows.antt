@@ -1,59 +1,27 @@
 -- The rows of the merged table of a machine whose states the walk numbered: they are the classes in the sequence of their first states, and two states share a row
 -- exactly when they are alike.
-use Prim.Native.Nat.{ℕ, zero, suc, _+_, _≤_, _<_, zero-le, suc-le-suc}
-use native.Mathlib.Nat.{not-suc-le-zero, le-of-suc-le-suc, zero-add}
+use Prim.Native.Nat.{ℕ, _<_}
 use native.Mathlib.Omega.{arith}
-use mathlib.Core.Path.{_≡_, refl, sym, _∙_, ap, subst}
+use mathlib.Core.Path.{_≡_, sym, _∙_, ap, subst}
 use mathlib.Core.Logic.{_↔_}
-use mathlib.Core.Bool.{Bool, true, false}
-use mathlib.Core.List.{List, [], _∷_, _++_, map, map-map, List·Memᴰ, Memᴰ·cast, Memᴰ·map}
+use mathlib.Core.List.{List, [], map, map-map, List·Memᴰ, Memᴰ·map}
 use lib.Dec.{eqb}
-use lib.ListN.{length, getD, length-map, length-append}
-use lib.Seq.{ext-getD}
-use Rattle.theory.specs.Tests.{Decides, Distinct, also, member, position, upFrom}
+use lib.ListN.{getD, length-map}
+use Rattle.theory.specs.Tests.{position, upFrom}
 use Rattle.theory.specs.Limits.{maxStates}
-use Rattle.theory.specs.Closure.{add, addAll}
-use Rattle.theory.specs.Machine.{Sizes, Machine, AllBelow, runs, Reached, numberedWithin, Alike}
+use Rattle.theory.specs.Closure.{addAll}
+use Rattle.theory.specs.Machine.{Sizes, Machine, Reached, numberedWithin, Alike}
 use Rattle.theory.specs.Table.{Table, Sized, Numbered, tableOf, countsOf, numbersOf}
 use Rattle.theory.specs.Merging.{classes, mergedOf, rowsOf, rowOf}
 use Rattle.theory.proofs.Reflect.{decides-number}
-use Rattle.theory.proofs.ListLaws.{member-getD, upFrom-length, upFrom-getD, upFrom-member}
-use Rattle.theory.proofs.RowLaws.{getD-map}
-use Rattle.theory.proofs.PositionLaws.{position-is, position-bound, position-reads}
+use Rattle.theory.proofs.ListLaws.{upFrom-member}
+use Rattle.theory.proofs.PositionLaws.{position-bound, position-reads, added-few, in-order}
 use Rattle.theory.proofs.ClosureLaws.{addAll-has}
-use Rattle.theory.proofs.MachineLaws.{numbered-distinct}
+use Rattle.theory.proofs.MachineLaws.{numbered-distinct, alike-next}
 use Rattle.theory.proofs.PairLaws.{covers-held}
 use Rattle.theory.proofs.MachineTable.{Limited, Enumerated, table-sized, table-numbered, start-number, numbers-cover, numbers-inside}
-use Rattle.theory.proofs.WalkImage.{images, numbered-image}
-use Rattle.theory.proofs.MergingLaws.{alike-next, class-below, class-alike, class-same, class-exactly}
-
-module _ {A : Type 0} where
-  -- no more things are added than there are
-  pub added-few : (same : A → A → Bool) (xs l : List A) → length (addAll same l xs) ≤ length l + length xs
-  added-few same [] l = omega arith
-  added-few same (x ∷ xs) l =
-      let rest = added-few same xs (add same l x) in
-      let one : length (add same l x) ≤ suc (length l) = added-one (member same x l) in
-      omega arith
-    where
-      added-one : (b : Bool) → length {A = A} (elim b as (λ (c : Bool). List A) [ true ↦ l | false ↦ l ++ (x ∷ []) ]) ≤ suc (length l)
-      added-one true = omega arith
-      added-one false = omega (arith, length-append l (x ∷ []))
-
-  -- different things are told apart by their numbers, so each stands at its own
-  distinct-apart : {l : List A} (d : A) → Distinct l → (i k : ℕ) → i < length l → k < i → getD l i d ≡ getD l k d → ⊥
-  distinct-apart {l = x ∷ xs} d (also n r) zero k h l e = absurd (not-suc-le-zero l)
-  distinct-apart {l = x ∷ xs} d (also n r) (suc i) zero h l e = n (Memᴰ·cast (sym e) (member-getD xs i d (le-of-suc-le-suc h)))
-  distinct-apart {l = x ∷ xs} d (also n r) (suc i) (suc k) h l e = distinct-apart d r i k (le-of-suc-le-suc h) (le-of-suc-le-suc l) e
-
-  in-order : {same : A → A → Bool} (dec : Decides same) (d : A) (l : List A) → Distinct l → map (λ x. position same x l) l ≡ upFrom 0 (length l)
-  in-order {same} dec d l r =
-      ext-getD 0 (map (λ x. position same x l) l) (upFrom 0 (length l)) (length-map l (λ x. position same x l) ∙ sym (upFrom-length 0 (length l)))
-      (λ i h.
-      let low : i < length l = rw length-map at h in
-      getD-map (λ x. position same x l) l i 0 d low
-      ∙ position-is dec (getD l i d) l i d (omega arith) (λ k b. distinct-apart d r i k low b) (λ b. refl)
-      ∙ sym (upFrom-getD 0 (length l) i 0 low ∙ zero-add i))
+use Rattle.theory.proofs.WalkImage.{numbered-image}
+use Rattle.theory.proofs.MergingLaws.{class-below, class-alike, class-same, class-exactly}
 
 module _ {X : Type 0} (m : Machine X) (z : Sizes) (limits : Limited z) (known : Enumerated m z (numberedWithin m maxStates z)) where
   abbrev xs : List X

@@ -4,7 +4,7 @@ use native.Mathlib.Nat.{not-suc-le-zero, le-of-suc-le-suc, lt-of-le-of-lt}
 use native.Mathlib.Omega.{arith}
 use mathlib.Core.Path.{_≡_, refl, sym, _∙_, ap, subst}
 use mathlib.Core.Logic.{_↔_, inr, ⊎-elim}
-use mathlib.Core.Bool.{Bool, true, false, false≢true}
+use mathlib.Core.Bool.{Bool, true, false}
 use mathlib.Core.List.{List, [], _∷_, map, List·Memᴰ, List·Memᴰ·head, List·Memᴰ·tail}
 use lib.ListN.{length, getD}
 use Rattle.theory.specs.Tests.{Says, position, upFrom}
@@ -14,28 +14,11 @@ use Rattle.theory.specs.Table.{Table, Sized, Numbered, tableOf, countsOf
 use Rattle.theory.specs.Merging.{enteredAt, oneEntry, alike, classes, mergedOf, rowsOf, walkedTable, mergeTable}
 use Rattle.theory.proofs.Reflect.{says-true, true-says, false-says, says-one, says-as, says-and, says-or, says-eqb, decides-list, decides-bool, decides-number}
 use Rattle.theory.proofs.ListLaws.{upFrom-length, upFrom-getD, member-upFrom, upFrom-member}
-use Rattle.theory.proofs.RowLaws.{all-cons, entries}
+use Rattle.theory.proofs.RowLaws.{entries}
 use Rattle.theory.proofs.RangeLaws.{entry-of, entry-count}
-use Rattle.theory.proofs.MachineLaws.{below-nil, below-tail, numbered-exactly, numbered-few, Inside, inside-runs, reached-inside}
+use Rattle.theory.proofs.MachineLaws.{below-nil, below-tail, numbered-exactly, numbered-few, Inside, inside-runs, reached-inside, alike-refl, alike-sym, alike-trans, alike-held, alike-next}
 use Rattle.theory.proofs.PairLaws.{agree-says, pairs-few, Covers, covers-same}
 use Rattle.theory.proofs.MachineTable.{Enumerated, numbers-inside, numbers-wide}
-
--- alike is an equivalence, and taking a set keeps it
-module _ {X : Type 0} (z : Sizes) (m : Machine X) where
-  pub alike-refl : (x : X) → Alike z m x x
-  alike-refl x ss b = refl
-
-  pub alike-sym : (x y : X) → Alike z m x y → Alike z m y x
-  alike-sym x y a ss b = sym (a ss b)
-
-  pub alike-trans : (x y w : X) → Alike z m x y → Alike z m y w → Alike z m x w
-  alike-trans x y w a c ss b = a ss b ∙ c ss b
-
-  pub alike-held : (x y : X) → Alike z m x y → m .held x ≡ m .held y
-  alike-held x y a = a [] (below-nil (z .sets))
-
-  pub alike-next : (x y : X) (s : ℕ) → s < z .sets → Alike z m x y → Alike z m (m .next x s) (m .next y s)
-  alike-next x y s h a ss b = a (s ∷ ss) (all-cons h b)
 
 -- the first element at which a test passes
 module _ {A : Type 0} (test : A → A → Bool) (x : A) where

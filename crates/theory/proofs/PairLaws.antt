@@ -1,4 +1,4 @@
--- Two machines side by side: they answer alike exactly when the two states of every pair that is reached hold the same orders.
+-- Two machines side by side: they answer alike exactly when the two states of every pair that is reached hold the same orders; so they do where the states of one go to those of the other.
 use Prim.Native.Nat.{ℕ, _+_, _*_, _/_, _%_, _≤_, _<_}
 use native.Mathlib.Omega.{arith}
 use mathlib.Core.Path.{_≡_, refl, sym, _∙_, ap, ap₂, subst}
@@ -8,7 +8,7 @@ use mathlib.Core.List.{List, [], _∷_, map, List·Memᴰ, List·Memᴰ·head, L
 use lib.ListN.{length}
 use Rattle.theory.specs.Tests.{Says, Decides, upFrom, every, sameList}
 use Rattle.theory.specs.Limits.{maxStates, maxPairs}
-use Rattle.theory.specs.Machine.{Sizes, Machine, AllBelow, runs, Reached, numberedWithin, Alike, Reduced, SameAnswers, both, agree}
+use Rattle.theory.specs.Machine.{Sizes, Machine, AllBelow, runs, Reached, numberedWithin, Reduced, SameAnswers, both, agree}
 use Rattle.theory.proofs.Reflect.{says-false, says-as, says-and, says-every, decides-list, decides-bool}
 use Rattle.theory.proofs.ListLaws.{upFrom-member}
 use Rattle.theory.proofs.RangeLaws.{entry-count}

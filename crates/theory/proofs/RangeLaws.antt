@@ -9,7 +9,7 @@ use lib.ListN.{length, take, drop, getD, length-map, take-append-drop}
 use lib.Seq.{take-suc, take-take}
 use Rattle.theory.specs.Tests.{upFrom}
 use Rattle.theory.proofs.ListLaws.{upFrom-length, upFrom-getD}
-use Rattle.theory.proofs.RowLaws.{getD-map}
+use Rattle.theory.proofs.RowLaws.{getD-map, entries}
 
 -- what f gives at the numbers from k on
 pub entry-at : {A : Type 0} (f : ℕ → A) (k n i : ℕ) (d : A) → i < n → getD (map f (upFrom k n)) i d ≡ f (k + i)
@@ -61,3 +61,7 @@ module _ {A : Type 0} where
 
 pub map-begins : {A B : Type 0} (g : A → B) (k l : List A) → IsPrefix k l → IsPrefix (map g k) (map g l)
 map-begins g k l p = (map g (p .0), sym (map-append g k (p .0)) ∙ ap (map g) (p .1))
+
+-- two functions that agree below n give the same list there
+pub map-below : {A : Type 0} (g h : ℕ → A) (d : A) (n : ℕ) → ((i : ℕ) → i < n → g i ≡ h i) → map g (upFrom 0 n) ≡ map h (upFrom 0 n)
+map-below g h d n e = entries g (map h (upFrom 0 n)) d n (entry-count h 0 n) (λ i l. e i l ∙ sym (entry-of h n i d l))

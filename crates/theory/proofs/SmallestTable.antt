@@ -1,21 +1,21 @@
 -- The smallest table: a reduced machine has no more states than any table with the same answers, and reduced machines with the same answers have one table.
-use Prim.Native.Nat.{ℕ, zero, suc, _+_, _*_, _≤_, _<_}
-use native.Mathlib.Nat.{zero-mul, suc-mul, mul-le-mul}
+use Prim.Native.Nat.{ℕ, suc, _+_, _*_, _≤_, _<_}
+use native.Mathlib.Nat.{mul-le-mul}
 use native.Mathlib.Omega.{arith}
 use mathlib.Core.Path.{_≡_, refl, sym, _∙_, ap, ap₂, subst}
 use mathlib.Core.Bool.{Bool}
-use mathlib.Core.List.{List, [], _∷_, _++_, map, map-map, append-nil, append-assoc, List·Memᴰ, List·Memᴰ·head, List·Memᴰ·tail, List·Memᴰ·not-nil, Memᴰ·map, Memᴰ·of-map, Memᴰ·cast, Memᴰ·append-left, Memᴰ·append-right, List·Memᴰ·eq-of-singleton}
-use lib.ListN.{length, length-append, length-map}
+use mathlib.Core.List.{List, [], _∷_, _++_, map, map-map, List·Memᴰ, List·Memᴰ·head, List·Memᴰ·tail, List·Memᴰ·not-nil, Memᴰ·of-map, Memᴰ·cast}
+use lib.ListN.{length, length-map}
 use Rattle.theory.specs.Tests.{Decides, Distinct, empty, also, position, upFrom}
-use Rattle.theory.specs.Closure.{addAll}
-use Rattle.theory.specs.Machine.{Sizes, Machine, AllBelow, runs, Reached, numberedWithin, Alike, Reduced, SameAnswers, both}
-use Rattle.theory.specs.Table.{Table, tableOf}
-use Rattle.theory.proofs.ListLaws.{distinct-length, upFrom-member, upFrom-length}
+use Rattle.theory.specs.Machine.{Sizes, Machine, AllBelow, runs, Reached, numberedWithin, Reduced, SameAnswers, both}
+use Rattle.theory.specs.Table.{tableOf}
+use Rattle.theory.proofs.ListLaws.{distinct-length, upFrom-member, upFrom-length, map-members, distinct-map, products, products-length, products-member}
 use Rattle.theory.proofs.RowLaws.{all-append, all-cons}
-use Rattle.theory.proofs.PositionLaws.{position-map, add-new}
+use Rattle.theory.proofs.PositionLaws.{position-map, addAll-distinct}
 use Rattle.theory.proofs.MachineLaws.{reached-start, reached-next, reached-runs, numbered-exactly, numbered-distinct, numbered-few, Inside, inside-after}
 use Rattle.theory.proofs.PairLaws.{runs-both, decides-both, arrives-both, same-together}
-use Rattle.theory.proofs.WalkImage.{images, map-below, numbered-image}
+use Rattle.theory.proofs.WalkImage.{images, numbered-image}
+use Rattle.theory.proofs.RangeLaws.{map-below}
 
 -- a run through two lists of sets, one after the other
 runs-append : {X : Type 0} (m : Machine X) (x : X) (ss rs : List ℕ) → runs m x (ss ++ rs) ≡ runs m (runs m x ss) rs
@@ -63,43 +63,6 @@ module _ {X : Type 0} (z : Sizes) (m : Machine X) (reduced : Reduced z m) (k : M
   smallest xs d all =
       let t = targets xs d all in
       omega (arith, t .count, distinct-length (t .numbers) (upFrom 0 b) (t .different) (λ n i. let l = t .low n i in upFrom-member 0 b (omega arith) (omega arith)), upFrom-length 0 b)
-
-module _ {A B : Type 0} where
-  -- functions that agree on a list give the same list
-  pub map-members : (g h : A → B) (l : List A) → ((x : A) → List·Memᴰ x l → g x ≡ h x) → map g l ≡ map h l
-  map-members g h [] e = refl
-  map-members g h (x ∷ l) e = ap₂ _∷_ (e x (List·Memᴰ·head refl)) (map-members g h l (λ y i. e y (List·Memᴰ·tail i)))
-
-  -- what tells the elements of a list apart gives different things
-  distinct-map : (f : A → B) {l : List A} → Distinct l → ((x y : A) → List·Memᴰ x l → List·Memᴰ y l → f x ≡ f y → x ≡ y) → Distinct (map f l)
-  distinct-map f empty told = empty
-  distinct-map f (also {x} {xs} n d) told =
-      also (λ i. let r = Memᴰ·of-map f xs i in n (Memᴰ·cast (sym (told (r .0) x (List·Memᴰ·tail (r .1)) (List·Memᴰ·head refl) (r .2))) (r .1)))
-      (distinct-map f d (λ y w i j. told y w (List·Memᴰ·tail i) (List·Memᴰ·tail j)))
-
-  -- every pair of an element of the one list and an element of the other
-  products : List A → List B → List (A × B)
-  products [] ys = []
-  products (x ∷ xs) ys = map (λ y. (x, y)) ys ++ products xs ys
-
-  products-length : (xs : List A) (ys : List B) → length (products xs ys) ≡ length xs * length ys
-  unfolding products
-  products-length [] ys = sym (zero-mul (length ys))
-  products-length (x ∷ xs) ys = simp (length-append, length-map, suc-mul, products-length xs ys) (omega arith)
-
-  products-member : {x : A} {y : B} {xs : List A} {ys : List B} → List·Memᴰ x xs → List·Memᴰ y ys → List·Memᴰ {A = A × B} (x, y) (products xs ys)
-  unfolding products
-  products-member {y} {ys} (List·Memᴰ·head {x = w} {xs = rest} e) j =
-      Memᴰ·append-left (products rest ys) (subst (λ v. List·Memᴰ {A = A × B} (v, y) (map (λ u. (w, u)) ys)) (sym e) (Memᴰ·map (λ u. (w, u)) j))
-  products-member {ys} (List·Memᴰ·tail {x = w} i) j = Memᴰ·append-right (map (λ u. (w, u)) ys) (products-member i j)
-
--- different things, none of which is there, are all added
-addAll-distinct : {A : Type 0} {same : A → A → Bool} (dec : Decides same) (l k : List A) → Distinct l → ((x : A) → List·Memᴰ x l → ¬ List·Memᴰ x k) → addAll same k l ≡ k ++ l
-addAll-distinct dec [] k d n = sym (append-nil k)
-addAll-distinct {A} {same} dec (x ∷ l) k (also new d) n =
-    ap (λ j. addAll same j l) (add-new dec x k (n x (List·Memᴰ·head refl)))
-    ∙ addAll-distinct dec l (k ++ (x ∷ [])) d (λ y i m. all-append {P = λ w. ¬ (y ≡ w)} k (λ w j e. n y (List·Memᴰ·tail i) (Memᴰ·cast e j)) (λ w j e. new (Memᴰ·cast (sym (e ∙ List·Memᴰ·eq-of-singleton j)) i)) y m refl)
-    ∙ append-assoc k (x ∷ []) l
 
 -- a machine that holds other orders
 abbrev holding : {X : Type 0} → Machine X → (X → List Bool) → Machine X

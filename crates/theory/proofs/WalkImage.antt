@@ -4,8 +4,7 @@ use Prim.Native.Nat.{ℕ, zero, suc, _+_, _≤_, _<_, zero-le}
 use native.Mathlib.Omega.{arith}
 use mathlib.Core.Path.{_≡_, refl, sym, _∙_, ap, subst}
 use mathlib.Core.Bool.{Bool, true, false}
-use mathlib.Core.Logic.{⊎-elim}
-use mathlib.Core.List.{List, [], _∷_, _++_, map, map-append, map-map, List·Memᴰ, List·Memᴰ·head, List·Memᴰ·tail, List·Memᴰ·not-nil, List·Memᴰ·append-cases, List·Memᴰ·eq-of-singleton, Memᴰ·map, IsPrefix}
+use mathlib.Core.List.{List, [], _∷_, _++_, map, map-append, map-map, List·Memᴰ, List·Memᴰ·not-nil, Memᴰ·map, IsPrefix}
 use lib.ListN.{length, take, drop, getD, length-append, take-append-drop}
 use lib.Seq.{take-all, take-suc, take-append-le, getD-append-seam}
 use Rattle.theory.specs.Tests.{Says, holds, fails, Decides, upFrom}
@@ -13,9 +12,9 @@ use Rattle.theory.specs.Closure.{add, addAll, walk, closure}
 use Rattle.theory.specs.Machine.{Sizes, Machine, Reached, numberedWithin}
 use Rattle.theory.proofs.Reflect.{says-member, says-ltb}
 use Rattle.theory.proofs.ListLaws.{Within, member-getD, prefix-within, prefix-length, prefix-getD}
-use Rattle.theory.proofs.RowLaws.{all-snoc, entries}
-use Rattle.theory.proofs.RangeLaws.{entry-of, entry-count}
-use Rattle.theory.proofs.PositionLaws.{add-known, add-new}
+use Rattle.theory.proofs.RowLaws.{all-snoc}
+use Rattle.theory.proofs.RangeLaws.{map-below}
+use Rattle.theory.proofs.PositionLaws.{add-known, add-new, add-within}
 use Rattle.theory.proofs.ClosureLaws.{addAll-append, addAll-keeps, addAll-has, walk-keeps}
 use Rattle.theory.proofs.WalkLaws.{walk-end, walk-more}
 use Rattle.theory.proofs.MachineLaws.{numbered-exactly}
@@ -44,11 +43,6 @@ module _ {A B : Type 0} {sameA : A → A → Bool} {sameB : B → B → Bool} (d
   images-begin k l p =
       subst (IsPrefix (images k)) (sym (addAll-append decB [] (map f k) (map f (p .0))) ∙ sym (ap (addAll sameB []) (map-append f k (p .0))) ∙ ap images (p .1))
       (addAll-keeps decB (map f (p .0)) (images k))
-
-  add-within : (xs l : List B) → Within xs l → addAll sameB l xs ≡ l
-  add-within [] l w = refl
-  add-within (x ∷ xs) l w =
-      ap (λ k. addAll sameB k xs) (add-known decB x l (w x (List·Memᴰ·head refl))) ∙ add-within xs l (λ y m. w y (List·Memᴰ·tail m))
 
   module _ (outA : A → List A) (outB : B → List B) (capA capB : ℕ) (d : A) where
     -- the first walk has visited i things of l, the second their images, j of them; `found` is what the first finds in the end
@@ -93,7 +87,7 @@ module _ {A B : Type 0} {sameA : A → A → Bool} {sameB : B → B → Bool} (d
         -- its image was visited before: the second walk stays
         module _ (m : List·Memᴰ (f x) (images (take i l))) where
           stays : images more ≡ images l
-          stays = all ∙ add-within (outB (f x)) (images l) (s .settled (f x) m)
+          stays = all ∙ add-within decB (outB (f x)) (images l) (s .settled (f x) m)
 
           old : images (take (suc i) more) ≡ images (take i l)
           old = seen ∙ add-known decB (f x) (images (take i l)) m
@@ -185,10 +179,6 @@ module _ {A B : Type 0} {sameA : A → A → Bool} {sameB : B → B → Bool} (d
         ap (λ k. walk sameB outB capB (suc capB) k zero) (sym (images-addAll start []))
         ∙ in-step (closure sameA outA capA start) moves few few′ (suc capA) (suc capB) (addAll sameA [] start) zero zero
         (record { rest = refl; within = zero-le; fuel = omega arith; fuel′ = omega arith; count = refl; settled = λ y m. absurd (List·Memᴰ·not-nil m) })
-
--- two functions that agree below n give the same list there
-pub map-below : {A : Type 0} (g h : ℕ → A) (d : A) (n : ℕ) → ((i : ℕ) → i < n → g i ≡ h i) → map g (upFrom 0 n) ≡ map h (upFrom 0 n)
-map-below g h d n e = entries g (map h (upFrom 0 n)) d n (entry-count h 0 n) (λ i l. e i l ∙ sym (entry-of h n i d l))
 
 -- The numbered states of a machine that another is led to: each once, in the sequence in which the other's are numbered.
 pub numbered-image : {X Y : Type 0} (z : Sizes) (m : Machine X) (k : Machine Y) (f : X → Y) (cap cap′ : ℕ) (decM : Decides (m .same)) (decK : Decides (k .same)) →

@@ -7,15 +7,14 @@ use mathlib.Core.Bool.{Bool, true, false, _&&_, false≢true}
 use mathlib.Core.List.{List, [], _∷_, List·Memᴰ, flatten}
 use lib.ListN.{length, take, drop, getD}
 use borrow.Author.Tests.{ltb-false}
-use Rattle.theory.specs.Limits.{maxNodes, maxStates, scratchLength, longestTable}
+use Rattle.theory.specs.Limits.{maxNodes, scratchLength}
 use Rattle.theory.specs.Tests.{Says, every}
 use Rattle.theory.specs.Orders.{Query, interesting, After}
-use Rattle.theory.specs.Closure.{Exactly}
 use Rattle.theory.specs.Machine.{numberedWithin, agree}
-use Rattle.theory.specs.Construction.{nodes, State, states, wantedColumns, kept, steps, keptSteps, startState, takeSet, holdsIn, sizesOf, construction}
+use Rattle.theory.specs.Construction.{nodes, wantedColumns, kept, steps, keptSteps, startState, takeSet, holdsIn, sizesOf, construction}
 use Rattle.theory.specs.Refusals.{passed}
 use Rattle.theory.specs.Query.{Bytes, readQuery, sizesRefusal, bodyRefusal, orderRefusal, dependencyRefusal, itemRefusal, twinRefusal, queryRefusal}
-use Rattle.theory.specs.Table.{Table, tableOf, writeTable, statesIn, formRefusal, startsRefusal, successorsRefusal, heldRefusal, tableRefusal}
+use Rattle.theory.specs.Table.{tableOf, writeTable, statesIn, formRefusal, startsRefusal, successorsRefusal, heldRefusal, tableRefusal}
 use Rattle.theory.specs.Merging.{alike, classes, walkedTable, mergeTable}
 use Rattle.theory.specs.Build.{Outcome, refused, built, construct, outcome}
 use Rattle.theory.specs.Verification.{mismatchRefusal, answerRefusal, suppliedRefusal, verifyRefusal}

@@ -3,11 +3,6 @@ use Rattle.construction.proofs.LeavesLaws.{refused-left}
 use borrow.Author.Needs.{needs}
 use Rattle.construction.proofs.construct.Statement.{statement}
 use Rattle.construction.proofs.construct.Tie as tie
-use Rattle.construction.proofs.construct.Reads as reads
-use Rattle.construction.proofs.construct.Lts as lts
-use Rattle.construction.proofs.merged.Reads as merged-reads
-use Rattle.construction.proofs.number.Reads as number-reads
-use Rattle.construction.proofs.refused.Reads as refused-reads
 
 number-requires : tie.Need-number-requires
 number-requires c κs = search needs

@@ -1,17 +1,12 @@
 -- `construction::merged` meets its contract: the merged rows of the states are the query's table.
 use native.Mathlib.Omega.{arith}
-use mathlib.Core.Path.{_≡_, sym}
+use mathlib.Core.Path.{sym}
 use denote.Ref.{now}
 use Rattle.closure.specs.Work.{contentsOf}
 use Rattle.construction.proofs.LeavesLaws.{table-left, mergeable}
 use borrow.Author.Needs.{needs}
 use Rattle.construction.proofs.merged.Statement.{statement}
 use Rattle.construction.proofs.merged.Tie as tie
-use Rattle.construction.proofs.merged.Reads as reads
-use Rattle.construction.proofs.merged.Lts as lts
-use Rattle.merging.proofs.merge.Reads as merge-reads
-use Rattle.query.proofs.produced.Reads as produced-reads
-use Rattle.query.proofs.sets.Reads as sets-reads
 
 produced-requires : tie.Need-produced-requires
 produced-requires c κs = search needs

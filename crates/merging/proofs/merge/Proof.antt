@@ -1,18 +1,12 @@
 -- `merging::merge` meets its contract: classes, the numbers of their rows, and the rows moved.
 use native.Mathlib.Omega.{arith}
-use mathlib.Core.Path.{_≡_, sym, _∙_, subst}
-use denote.Ref.{now}
+use mathlib.Core.Path.{sym, subst}
 use Rattle.theory.specs.Merging.{mergeTable}
 use Rattle.theory.specs.Scratch.{Stored}
 use Rattle.merging.proofs.MergeLaws.{first-of-class, movable, count-is, moved-stored}
 use borrow.Author.Needs.{needs}
 use Rattle.merging.proofs.merge.Statement.{statement}
 use Rattle.merging.proofs.merge.Tie as tie
-use Rattle.merging.proofs.merge.Reads as reads
-use Rattle.merging.proofs.merge.Lts as lts
-use Rattle.likeness.proofs.find.Reads as find-reads
-use Rattle.merging.proofs.move_rows.Reads as move-rows-reads
-use Rattle.merging.proofs.number_rows.Reads as number-rows-reads
 
 slice-aggregate-find : tie.Need-slice-aggregate-find
 slice-aggregate-find c = search needs

@@ -1,7 +1,7 @@
 -- `merging::move_rows` meets its contract: the four steps, one after the other.
-use Prim.Native.Nat.{ℕ, _+_, _*_, _<_}
+use Prim.Native.Nat.{_+_, _*_, _<_}
 use native.Mathlib.Omega.{arith}
-use mathlib.Core.Path.{_≡_, sym, _∙_, ap, subst}
+use mathlib.Core.Path.{sym, _∙_, ap, subst}
 use mathlib.Core.List.{map}
 use lib.ListN.{length, take, drop}
 use denote.Ref.{now}
@@ -13,10 +13,6 @@ use Rattle.merging.specs.Rows.{renumbered, compacted}
 use borrow.Author.Needs.{needs}
 use Rattle.merging.proofs.move_rows.Statement.{statement}
 use Rattle.merging.proofs.move_rows.Tie as tie
-use Rattle.merging.proofs.move_rows.Reads as reads
-use Rattle.merging.proofs.move_rows.Lts as lts
-use Rattle.compaction.proofs.compact.Reads as compact-reads
-use Rattle.compaction.proofs.renumber.Reads as renumber-reads
 
 renumber-requires : tie.Need-renumber-requires
 renumber-requires c κs = search needs

@@ -10,9 +10,6 @@ use Rattle.merging.specs.Rows.{RowNumbers}
 use Rattle.merging.proofs.NumberLaws.{numbers-none, numbers-new, numbers-old}
 use Rattle.merging.proofs.number_rows.Statement.{statement}
 use Rattle.merging.proofs.number_rows.Tie as tie
-use Rattle.merging.proofs.number_rows.Reads as reads
-use Rattle.merging.proofs.number_rows.Lts as lts
-use Rattle.merging.proofs.row_number.Reads as row-number-reads
 
 abbrev Inv-loop : tie.InvT-loop
 Inv-loop classes numbers₀ q count₀ x₀ numbers count x = (x ≤ q) × (count ≤ x) × (length numbers ≡ length numbers₀) × RowNumbers classes numbers x count

@@ -4,8 +4,6 @@ use borrow.Author.Needs.{needs}
 use Rattle.theory.proofs.Picks.{picks}
 use Rattle.merging.proofs.row_number.Statement.{statement}
 use Rattle.merging.proofs.row_number.Tie as tie
-use Rattle.merging.proofs.row_number.Reads as reads
-use Rattle.merging.proofs.row_number.Lts as lts
 
 shared-slice-read-first : tie.Need-shared-slice-read-first
 shared-slice-read-first c = search needs
