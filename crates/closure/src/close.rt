@@ -64,7 +64,7 @@ fn mark_shorter(
         nodes,
         n,
         marks,
-        keys::key(orders::keep(orders::prefix(o), wanted, longest)),
+        keys::key(order_changes::keep(order_changes::prefix(o), wanted, longest)),
     )
 }
 

@@ -35,5 +35,5 @@ pub fn order(key: u16) -> Order
         (key / 256 % 16) as u8,
         (key / 4096 % 16) as u8,
     ];
-    orders::keep(Order { columns, len: 4 }, LOW, 4)
+    order_changes::keep(Order { columns, len: 4 }, LOW, 4)
 }

@@ -18,7 +18,7 @@ fn put(keys: &mut [u16], at: usize, o: Order, wanted: u16, longest: usize) -> us
     requires { ⌜ at < length (now keys) ⌝ }
     ensures { λ r. ⌜ Written wanted longest (orderOf o ∷ []) (now (keys .entry)) (now (keys .exit)) at 1 r ⌝ }
 {
-    keys[at] = key(orders::keep(o, wanted, longest));
+    keys[at] = key(order_changes::keep(o, wanted, longest));
     at + 1
 }
 
@@ -39,7 +39,7 @@ fn inserts(
     let mut next = at;
     let mut i = low;
     while i <= n {
-        next = put(keys, next, orders::insert(o, i, c), wanted, longest);
+        next = put(keys, next, order_changes::insert(o, i, c), wanted, longest);
         i += 1;
     }
     next
@@ -62,7 +62,7 @@ fn replace_at(
     if orders::column(o, i) != a {
         return at;
     }
-    put(keys, at, orders::replace(o, i, b), wanted, longest)
+    put(keys, at, order_changes::replace(o, i, b), wanted, longest)
 }
 
 // b in the stead of a, wherever that stands.

@@ -60,7 +60,7 @@ module _ {t : Table} {work : Bytes} {q produced sets : ℕ} (m : Mergeable t wor
       where
         movedBy : List ℕ → Bytes
         movedBy l =
-            let second = renumbered numbers successorsPart (q * sets) (renumbered numbers startsPart produced work) in
+            let second = renumbered numbers startsPart produced (renumbered numbers successorsPart (q * sets) work) in
             let third = placed successorsPart (flatten (map (λ x. rowAt successorsPart sets x second) l)) second in
             placed heldPart (flatten (map (λ x. rowAt heldPart heldWidth x third) l)) third
 

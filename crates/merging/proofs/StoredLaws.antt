@@ -21,6 +21,7 @@ use Rattle.theory.proofs.MergingLaws.{merged-inside, rows-known, merge-is}
 use Rattle.theory.proofs.PositionLaws.{added-few}
 use Rattle.byte_rows.specs.Placed.{placed}
 use Rattle.byte_rows.proofs.PlacedLaws.{placed-length, part-before, part-behind, part-placed}
+use Rattle.byte_rows.proofs.RowLaws.{row-fits}
 use Rattle.merging.specs.Rows.{Mergeable}
 
 -- entry by entry
@@ -117,17 +118,17 @@ module _ {t : Table} {work : Bytes} {q produced sets : ℕ} (m : Mergeable t wor
         to-rows row (λ x i. closed .successors-below row among x i) ∙ sym (map-entries (rowOf t) 0 row (t .setCount) (sized .row-width row among))
 
     -- the scratch as each step leaves it
-    abbrev startNumbers : Bytes
-    startNumbers = map (byteAt numbers) (take produced (drop startsPart work))
+    abbrev successorNumbers : Bytes
+    successorNumbers = map (byteAt numbers) (take (q * sets) (drop successorsPart work))
 
     abbrev first : Bytes
-    first = placed startsPart startNumbers work
+    first = placed successorsPart successorNumbers work
 
-    abbrev successorNumbers : Bytes
-    successorNumbers = map (byteAt numbers) (take (q * sets) (drop successorsPart first))
+    abbrev startNumbers : Bytes
+    startNumbers = map (byteAt numbers) (take produced (drop startsPart first))
 
     abbrev second : Bytes
-    second = placed successorsPart successorNumbers first
+    second = placed startsPart startNumbers first
 
     abbrev keptRows : Bytes
     keptRows = flatten (map (λ x. rowAt successorsPart sets x second) rows)
@@ -141,34 +142,33 @@ module _ {t : Table} {work : Bytes} {q produced sets : ℕ} (m : Mergeable t wor
     abbrev fourth : Bytes
     fourth = placed heldPart keptWords third
 
-    start-count : length startNumbers ≡ t .producedCount
-    start-count = length-map (take produced (drop startsPart work)) (byteAt numbers) ∙ ap length start-bytes ∙ sized .starts-count
-
-    first-long : length first ≡ length work
-    first-long = placed-length startsPart startNumbers work (omega (arith, start-count, few-starts, long))
-
-    successor-bytes : take (q * sets) (drop successorsPart first) ≡ flatten (t .successors)
-    successor-bytes =
-        part-before successorsPart (q * sets) startsPart startNumbers work (omega (arith, few-sets)) (omega (arith, long)) ∙ successors-read
-
     successor-count : length successorNumbers ≡ q * sets
     successor-count =
-        length-map (take (q * sets) (drop successorsPart first)) (byteAt numbers) ∙ ap length successor-bytes ∙ flatten-length (t .setCount) (t .successors) (sized .row-width)
+        length-map (take (q * sets) (drop successorsPart work)) (byteAt numbers) ∙ ap length successors-read ∙ flatten-length (t .setCount) (t .successors) (sized .row-width)
         ∙ ap₂ _*_ (sized .rows-count ∙ m .unmerged .states) (m .unmerged .set-count)
 
+    first-long : length first ≡ length work
+    first-long = placed-length successorsPart successorNumbers work (omega (arith, successor-count, few-sets, long))
+
+    starts-kept : take produced (drop startsPart first) ≡ t .starts
+    starts-kept = part-behind startsPart produced successorsPart successorNumbers work (omega (arith, successor-count, few-sets)) (omega (arith, long)) ∙ start-bytes
+
+    start-count : length startNumbers ≡ t .producedCount
+    start-count = length-map (take produced (drop startsPart first)) (byteAt numbers) ∙ ap length starts-kept ∙ sized .starts-count
+
     second-long : length second ≡ length work
-    second-long =
-        placed-length successorsPart successorNumbers first (omega (arith, successor-count, few-sets, first-long, long)) ∙ first-long
+    second-long = placed-length startsPart startNumbers first (omega (arith, start-count, few-starts, first-long, long)) ∙ first-long
 
     -- a state's successors, replaced by their rows
     row-written : (c : ℕ) → c < t .stateCount → rowAt successorsPart sets c second ≡ map (λ s. position eqb (mergedOf t .next c s) rows) (upFrom 0 (t .setCount))
     row-written c h =
-        ap (λ b. rowAt successorsPart sets c (placed successorsPart b first)) (ap (map (byteAt numbers)) successor-bytes ∙ map-flatten (byteAt numbers) (t .successors))
-        ∙ written-row successorsPart sets (map (map (byteAt numbers)) (t .successors)) first c
+        part-before (successorsPart + c * sets) sets startsPart startNumbers first (omega (arith, row-fits successorsPart sets {n = q} {i = c} {end = startsPart} (omega (arith, few-sets)) (omega (arith, m .unmerged .states)))) (omega (arith, first-long, long))
+        ∙ ap (λ b. rowAt successorsPart sets c (placed successorsPart b work)) (ap (map (byteAt numbers)) successors-read ∙ map-flatten (byteAt numbers) (t .successors))
+        ∙ written-row successorsPart sets (map (map (byteAt numbers)) (t .successors)) work c
         (λ r i.
         let k = Memᴰ·of-map (map (byteAt numbers)) (t .successors) i in
         ap length (sym (k .2)) ∙ length-map (k .0) (byteAt numbers) ∙ sized .row-width (k .0) (k .1) ∙ m .unmerged .set-count)
-        (omega (arith, first-long, long)) (omega (arith, length-map (t .successors) (map (byteAt numbers)), sized .rows-count))
+        (omega (arith, long)) (omega (arith, length-map (t .successors) (map (byteAt numbers)), sized .rows-count))
         ∙ getD-map (map (byteAt numbers)) (t .successors) c [] [] (omega (arith, sized .rows-count)) ∙ merged-row c h
 
     rows-long : length keptRows ≡ length rows * sets
@@ -191,8 +191,8 @@ module _ {t : Table} {work : Bytes} {q produced sets : ℕ} (m : Mergeable t wor
     held-kept c h =
         let at = heldPart + c * heldWidth in
         part-behind at heldWidth successorsPart keptRows second (omega (arith, rows-long, rows-fit)) (omega (arith, second-long, long))
-        ∙ part-behind at heldWidth successorsPart successorNumbers first (omega (arith, successor-count, few-sets)) (omega (arith, first-long, long))
-        ∙ part-behind at heldWidth startsPart startNumbers work (omega (arith, start-count, few-starts)) (omega (arith, long))
+        ∙ part-behind at heldWidth startsPart startNumbers first (omega (arith, start-count, few-starts)) (omega (arith, first-long, long))
+        ∙ part-behind at heldWidth successorsPart successorNumbers work (omega (arith, successor-count, few-sets)) (omega (arith, long))
         ∙ ap (rowAt heldPart heldWidth c) (sym (placed-same heldPart (t .stateCount * heldWidth) work (omega (arith, sized .few-states, long))))
         ∙ ap (λ b. rowAt heldPart heldWidth c (placed heldPart b work)) (m .unmerged .stored .held)
         ∙ written-row heldPart heldWidth (map heldBytes (t .held)) work c (λ r i. ap length (sym (Memᴰ·of-map heldBytes (t .held) i .2))) (omega (arith, long))
@@ -221,9 +221,8 @@ module _ {t : Table} {work : Bytes} {q produced sets : ℕ} (m : Mergeable t wor
               starts =
                   part-before startsPart (t .producedCount) heldPart keptWords third (omega (arith, few-starts)) (omega (arith, third-long, long))
                   ∙ part-behind startsPart (t .producedCount) successorsPart keptRows second (omega (arith, rows-long, rows-fit)) (omega (arith, second-long, long))
-                  ∙ part-behind startsPart (t .producedCount) successorsPart successorNumbers first (omega (arith, successor-count, few-sets)) (omega (arith, first-long, long))
-                  ∙ part-placed startsPart (t .producedCount) startNumbers work start-count (omega (arith, long))
-                  ∙ ap (map (byteAt numbers)) start-bytes ∙ merged-starts;
+                  ∙ part-placed startsPart (t .producedCount) startNumbers first start-count (omega (arith, first-long, long))
+                  ∙ ap (map (byteAt numbers)) starts-kept ∙ merged-starts;
               successors =
                   ap (λ n. take (length rows * n) (drop successorsPart fourth)) (m .unmerged .set-count)
                   ∙ part-before successorsPart (length rows * sets) heldPart keptWords third (omega (arith, rows-fit)) (omega (arith, third-long, long))

@@ -50,7 +50,7 @@ compacted numbers q at width work = placed at (flatten (map (λ x. rowAt at widt
 -- The scratch when starts, successors and held words are those of the rows.
 abbrev pub movedRows : Bytes → (q produced sets : ℕ) → Bytes → Bytes
 movedRows numbers q produced sets work =
-    compacted numbers q heldPart heldWidth (compacted numbers q successorsPart sets (renumbered numbers successorsPart (q * sets) (renumbered numbers startsPart produced work)))
+    compacted numbers q heldPart heldWidth (compacted numbers q successorsPart sets (renumbered numbers startsPart produced (renumbered numbers successorsPart (q * sets) work)))
 
 -- The parts lie in the scratch, and every start and every successor has a number.
 pub record Movable (work numbers : Bytes) (q produced sets : ℕ) : Type 0 where

@@ -45,13 +45,13 @@ fn number_rows(classes: &[u8], numbers: &mut [u8], q: usize) -> usize
     count
 }
 
-// The starts and the successors become the numbers of their rows; then the rows of the first state of each are kept, in both parts that have a row for each state.
+// The successors and the starts become the numbers of their rows; then the rows of the first state of each are kept, in both parts that have a row for each state.
 fn move_rows(work: &mut [u8], numbers: &[u8], q: usize, produced: usize, sets: usize)
     requires { ⌜ Movable (now work) (now numbers) q produced sets ⌝ }
     ensures { λ r. ⌜ (now (work .exit) ≡ movedRows (now (numbers .entry)) q produced sets (now (work .entry))) × (length (now (work .exit)) ≡ length (now (work .entry))) ⌝ }
 {
-    compaction::renumber(work, numbers, STARTS_PART, produced);
     compaction::renumber(work, numbers, SUCCESSORS_PART, q * sets);
+    compaction::renumber(work, numbers, STARTS_PART, produced);
     compaction::compact(work, numbers, q, SUCCESSORS_PART, sets);
     compaction::compact(work, numbers, q, HELD_PART, HELD_WIDTH);
 }

@@ -74,7 +74,7 @@ fn add_shorter(nodes: &mut [u16], n: usize, o: Order, wanted: u16, longest: usiz
     add(
         nodes,
         n,
-        keys::key(orders::keep(orders::prefix(o), wanted, longest)),
+        keys::key(order_changes::keep(order_changes::prefix(o), wanted, longest)),
     )
 }
 

@@ -37,7 +37,7 @@ same-length c = search needs
 returns : tie.Need-returns
 returns c = let n = c .before .before .before .before .before in let s = n .before .before .before .before .before .before in
     let e = n .number .ensures in
-    (states-many-kept (now (s .args .query)) (few s) (e .0 .over (c .before .if1 .taken)) (c .unnumbered .ensures), e .1)
+    (states-many-kept (now (s .args .query)) (few s) (e .0 .over (omega arith)) (c .unnumbered .ensures), e .1)
 
 slice-aggregate-copy : tie.Need-slice-aggregate-copy
 slice-aggregate-copy c = search needs
@@ -48,7 +48,7 @@ copy-requires c κs = search needs
 store-requires : tie.Need-store-requires
 store-requires c κs = let p = c .before .before .before in let n = p .before .before .before .before .before .before .before in let s = n .before .before .before .before .before .before in
     let e = n .number .ensures in
-    let are = e .0 .fits (p .before .before .before .if1 .left) in
+    let are = e .0 .fits (omega arith) in
     let work = n .number .last .1 .1 .1 .0 in
     let starts = n .number .last .1 .1 .1 .1 .0 in
     let put = p .copy .ensures ∙ placed-row work startsPart starts in
@@ -64,7 +64,7 @@ returns-2 c = let t = c .before .before in let p = t .before .before .before .be
     let e = n .number .ensures in
     let b = now (s .args .query) in
     let q = n .number .result in
-    let are = e .0 .fits (p .before .before .before .if1 .left) in
+    let are = e .0 .fits (omega arith) in
     let work = n .number .last .1 .1 .1 .0 in
     let starts = n .number .last .1 .1 .1 .1 .0 in
     let put = p .copy .ensures ∙ placed-row work startsPart starts in

@@ -1,11 +1,12 @@
--- `orders::insert` meets its contract: the four columns, and as many of them as there are.
+-- `order_changes::insert` meets its contract: the four columns, and as many of them as there are.
 use native.Mathlib.Omega.{arith}
 use borrow.Author.Needs.{needs}
 use Rattle.theory.specs.Construction.{insertAt}
 use Rattle.orders.specs.Orders.{orderOf}
-use Rattle.orders.proofs.OrderLaws.{four, insert-length}
-use Rattle.orders.proofs.insert.Statement.{statement}
-use Rattle.orders.proofs.insert.Tie as tie
+use Rattle.orders.proofs.OrderLaws.{four}
+use Rattle.order_changes.proofs.ChangeLaws.{insert-length}
+use Rattle.order_changes.proofs.insert.Statement.{statement}
+use Rattle.order_changes.proofs.insert.Tie as tie
 
 inserted-requires : tie.Need-inserted-requires
 inserted-requires c κs = search needs

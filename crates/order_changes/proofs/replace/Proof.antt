@@ -1,4 +1,4 @@
--- `orders::replace` meets its contract: the four columns, and as many of them as there are.
+-- `order_changes::replace` meets its contract: the four columns, and as many of them as there are.
 use Prim.Native.Nat.{min}
 use native.Mathlib.Omega.{arith}
 use mathlib.Core.Path.{_≡_}
@@ -6,10 +6,11 @@ use mathlib.Core.Logic.{⊎-elim}
 use lib.ListN.{length}
 use borrow.Author.Needs.{needs}
 use Rattle.theory.specs.Construction.{replaceAt}
 use Rattle.orders.specs.Orders.{orderOf}
-use Rattle.orders.proofs.OrderLaws.{four, replace-length}
-use Rattle.orders.proofs.replace.Statement.{statement}
-use Rattle.orders.proofs.replace.Tie as tie
+use Rattle.orders.proofs.OrderLaws.{four}
+use Rattle.order_changes.proofs.ChangeLaws.{replace-length}
+use Rattle.order_changes.proofs.replace.Statement.{statement}
+use Rattle.order_changes.proofs.replace.Tie as tie
 
 length-requires : tie.Need-length-requires
 length-requires c κs = search needs

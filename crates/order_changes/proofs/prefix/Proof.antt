@@ -1,11 +1,11 @@
--- `orders::prefix` meets its contract: all but the last column.
+-- `order_changes::prefix` meets its contract: all but the last column.
 use Prim.Native.Nat.{_-_}
 use native.Mathlib.Omega.{arith}
 use borrow.Author.Needs.{needs}
 use Rattle.orders.specs.Orders.{orderOf}
-use Rattle.orders.proofs.OrderLaws.{but-last}
-use Rattle.orders.proofs.prefix.Statement.{statement}
-use Rattle.orders.proofs.prefix.Tie as tie
+use Rattle.order_changes.proofs.ChangeLaws.{but-last}
+use Rattle.order_changes.proofs.prefix.Statement.{statement}
+use Rattle.order_changes.proofs.prefix.Tie as tie
 
 length-requires : tie.Need-length-requires
 length-requires c κs = search needs

@@ -1,9 +1,9 @@
--- `orders::keep` meets its contract: the kept part is a beginning.
+-- `order_changes::keep` meets its contract: the kept part is a beginning.
 use borrow.Author.Needs.{needs}
 use Rattle.orders.specs.Orders.{orderOf, inMask}
-use Rattle.orders.proofs.RunLaws.{keep-front}
-use Rattle.orders.proofs.keep.Statement.{statement}
-use Rattle.orders.proofs.keep.Tie as tie
+use Rattle.order_changes.proofs.RunLaws.{keep-front}
+use Rattle.order_changes.proofs.keep.Statement.{statement}
+use Rattle.order_changes.proofs.keep.Tie as tie
 
 kept-requires : tie.Need-kept-requires
 kept-requires c κs = search needs

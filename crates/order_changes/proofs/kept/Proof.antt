@@ -1,12 +1,12 @@
--- `orders::kept` meets its contract. The loop's invariant: the first i columns are kept.
+-- `order_changes::kept` meets its contract. The loop's invariant: the first i columns are kept.
 use Prim.Native.Nat.{_-_}
 use native.Mathlib.Omega.{arith}
 use borrow.Author.Tests.{not-true, not-false}
 use borrow.Author.Needs.{needs}
 use Rattle.orders.specs.Orders.{orderOf, inMask}
-use Rattle.orders.proofs.RunLaws.{Met, met-none, met-more, met-end, met-stop}
-use Rattle.orders.proofs.kept.Statement.{statement}
-use Rattle.orders.proofs.kept.Tie as tie
+use Rattle.order_changes.proofs.RunLaws.{Met, met-none, met-more, met-end, met-stop}
+use Rattle.order_changes.proofs.kept.Statement.{statement}
+use Rattle.order_changes.proofs.kept.Tie as tie
 
 abbrev Inv-loop : tie.InvT-loop
 Inv-loop o wanted n end i₀ i = Met (inMask wanted) n (orderOf o) i

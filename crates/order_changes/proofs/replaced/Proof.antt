@@ -1,13 +1,13 @@
--- `orders::replaced` meets its contract: the column at the place, or another.
+-- `order_changes::replaced` meets its contract: the column at the place, or another.
 use Prim.Native.Nat.{suc}
 use native.Mathlib.Omega.{arith}
 use mathlib.Core.Path.{sym, _∙_}
 use lib.ListN.{drop}
 use borrow.Author.Needs.{needs}
 use Rattle.orders.specs.Orders.{orderOf}
-use Rattle.orders.proofs.OrderLaws.{column-there, replace-other}
-use Rattle.orders.proofs.replaced.Statement.{statement}
-use Rattle.orders.proofs.replaced.Tie as tie
+use Rattle.order_changes.proofs.ChangeLaws.{column-there, replace-other}
+use Rattle.order_changes.proofs.replaced.Statement.{statement}
+use Rattle.order_changes.proofs.replaced.Tie as tie
 
 length-requires : tie.Need-length-requires
 length-requires c κs = search needs

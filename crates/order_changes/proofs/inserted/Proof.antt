@@ -1,12 +1,12 @@
--- `orders::inserted` meets its contract: a column before the place, at it, or behind it.
+-- `order_changes::inserted` meets its contract: a column before the place, at it, or behind it.
 use native.Mathlib.Omega.{arith}
 use mathlib.Core.Path.{sym, _∙_}
 use lib.ListN.{drop}
 use borrow.Author.Needs.{needs}
 use Rattle.orders.specs.Orders.{orderOf}
-use Rattle.orders.proofs.OrderLaws.{column-before, column-there, insert-behind}
-use Rattle.orders.proofs.inserted.Statement.{statement}
-use Rattle.orders.proofs.inserted.Tie as tie
+use Rattle.order_changes.proofs.ChangeLaws.{column-before, column-there, insert-behind}
+use Rattle.order_changes.proofs.inserted.Statement.{statement}
+use Rattle.order_changes.proofs.inserted.Tie as tie
 
 length-requires : tie.Need-length-requires
 length-requires c κs = search needs

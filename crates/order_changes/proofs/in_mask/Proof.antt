@@ -1,8 +1,8 @@
--- `orders::in_mask` meets its contract: the mask has no bit from 16 on.
+-- `order_changes::in_mask` meets its contract: the mask has no bit from 16 on.
 use borrow.Author.Needs.{needs}
 use Rattle.orders.proofs.OrderLaws.{past-mask}
-use Rattle.orders.proofs.in_mask.Statement.{statement}
-use Rattle.orders.proofs.in_mask.Tie as tie
+use Rattle.order_changes.proofs.in_mask.Statement.{statement}
+use Rattle.order_changes.proofs.in_mask.Tie as tie
 
 shr-result : tie.Need-shr-result
 shr-result c = search needs
