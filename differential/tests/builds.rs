@@ -19,7 +19,7 @@ use reference::verification::two_alike;
 use reference::{buffers, listing, trials, Implementation, Query};
 
 /// The length of a table, for queries that have none.
-const SOME_TABLE: usize = 26;
+const SOME_TABLE: usize = 22;
 
 /// Pairs of lengths of scratch and of output or text, for what takes so many
 /// bytes and the most that anything takes.
