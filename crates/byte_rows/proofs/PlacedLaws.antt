@@ -4,8 +4,8 @@ use native.Mathlib.Nat.{zero-add, add-zero}
 use native.Mathlib.Numerals.{add-one}
 use native.Mathlib.Omega.{arith}
 use mathlib.Core.Path.{_≡_, refl, sym, _∙_, ap, ap₂}
-use mathlib.Core.List.{[], _∷_, _++_, append-assoc, append-nil}
-use lib.ListN.{length, take, drop, set, take-append-drop, length-append, length-drop, drop-of-length-le, List·getD-append}
+use mathlib.Core.List.{[], _∷_, _++_, append-assoc}
+use lib.ListN.{length, take, drop, set, take-append-drop, length-append, length-drop, List·getD-append}
 use lib.Seq.{paste, length-take-le, take-length, take-at, drop-at, take-append-le, drop-append-le, drop-append-add, drop-drop, getD-take, getD-drop, set-split}
 use Rattle.theory.specs.Query.{Bytes, byteAt}
 use Rattle.byte_rows.specs.Placed.{placed}
@@ -20,17 +20,13 @@ pub placed-none : (d : Bytes) (at : ℕ) → d ≡ placed at [] d
 unfolding placed
 placed-none d at = rw add-zero (sym (take-append-drop at d))
 
--- bytes written at the first place are the first ones ..
+-- bytes written at the first place are the first ones
 pub placed-first : (x d : Bytes) → placed 0 x d ≡ x ++ drop (length x) d
 unfolding placed
 placed-first x d = rw zero-add
 
 pub placed-taken : (x d : Bytes) → take (length x) (placed 0 x d) ≡ x
 placed-taken x d = rw placed-first (take-at x (drop (length x) d) (length x) refl)
-
--- .. and the only ones where they are as many as the buffer
-pub placed-whole : (x d : Bytes) → length d ≡ length x → placed 0 x d ≡ x
-placed-whole x d e = placed-first x d ∙ ap (λ r. x ++ r) (drop-of-length-le d {i = length x} (omega arith)) ∙ append-nil x
 
 pub placed-length : (at : ℕ) (x d : Bytes) → at + length x ≤ length d → length (placed at x d) ≡ length d
 unfolding placed

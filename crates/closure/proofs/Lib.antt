@@ -4,5 +4,5 @@ pub mod TraceLaws
 pub mod RuleLaws
 pub mod NumberLaws
 pub mod GrownLaws
-pub mod TakenLaws
+pub mod ClosingLaws
 pub mod VisitLaws

@@ -1,7 +1,7 @@
--- What the functions that take a set in a state promise. A node is named by its key, and the nodes' keys are a list.
-use Prim.Native.Nat.{ℕ, zero, suc, _+_, _<_, _≤_}
+-- What the functions that close a set of nodes under a choice promise. A node is named by its key, and the nodes' keys are a list.
+use Prim.Native.Nat.{ℕ, zero, suc, _+_, _/_, _%_, _^_, _<_, _≤_}
 use mathlib.Core.Path.{_≡_}
-use mathlib.Core.Bool.{true, false}
+use mathlib.Core.Bool.{Bool, true, false}
 use mathlib.Core.List.{List, [], _∷_, map, List·Memᴰ, flatten}
 use lib.Dec.{eqb}
 use lib.ListN.{length, getD}
@@ -16,12 +16,16 @@ pub record Room (nodes : List ℕ) (n : ℕ) (marks : Bytes) : Type 0 where
   pub few : n ≤ 256
   pub long : length marks ≡ 32
 
--- The numbers of set s's dependencies, and the rules of the dependencies with some numbers.
+-- Under the choice that has this number, set s is in force.
+abbrev pub chosen : ℕ → ℕ → Bool
+chosen choice s = eqb (choice / 2 ^ s % 2) 1
+
+-- The numbers of the dependencies in force under the choice, and the rules of the dependencies with some numbers.
 abbrev pub ownAt : Bytes → ℕ → ℕ → List ℕ
-ownAt b s i = pick (eqb (dependencyAt b (orderCount b + i) .set) s) (i ∷ []) []
+ownAt b choice i = pick (chosen choice (dependencyAt b (orderCount b + i) .set)) (i ∷ []) []
 
 abbrev pub ownOf : Bytes → ℕ → List ℕ
-ownOf b s = flatten (map (ownAt b s) (upFrom 0 (dependencyCount b)))
+ownOf b choice = flatten (map (ownAt b choice) (upFrom 0 (dependencyCount b)))
 
 abbrev pub rulesAt : Bytes → List ℕ → List Rule
 rulesAt b own = map (λ i. dependencyAt b (orderCount b + i) .rule) own

@@ -1,4 +1,4 @@
-// Taking a set in a state.
+// Closing a set of nodes under a choice of sets in force.
 use crate::own;
 use derivation::keys;
 use derivation::results;
@@ -6,9 +6,11 @@ use orders::Order;
 use orders::Rule;
 ghost use mathlib.Core.Path.{_≡_};
 ghost use mathlib.Core.List.{[], _∷_, map, flatten};
-ghost use Prim.Native.Nat.{_+_, _≤_, _<_};
+ghost use Prim.Native.Nat.{_+_, _^_, _≤_, _<_};
 ghost use lib.ListN.{length, take, getD};
-ghost use Rattle.theory.specs.Construction.{Marks, takeSet, shorter, results};
+ghost use Rattle.theory.specs.Tests.{bitsOf};
+ghost use Rattle.theory.specs.Construction.{Marks, shorter, results};
+ghost use Rattle.theory.specs.States.{closeUnder};
 ghost use Rattle.theory.specs.Query.{readQuery, orderCount, dependencyAt};
 ghost use Rattle.orders.specs.Orders.{orderOf, ruleIs};
 ghost use Rattle.derivation.specs.Keys.{keptKeys, keySteps};
@@ -199,21 +201,21 @@ fn pass(
     count
 }
 
-// Mark all that steps under set `set` give from the marked nodes: each is visited once, in passes that are repeated until one marks nothing.
+// Mark all that steps under the sets in force, together, give from the marked nodes: each is visited once, in passes that are repeated until one marks nothing.
 pub fn close(
     query: &[u8],
     nodes: &[u16],
     n: usize,
     marks: &mut [u8],
-    set: u8,
+    choice: u8,
     wanted: u16,
     longest: usize,
 )
-    requires { ⌜ Ready (now query) (now nodes) n wanted longest × (length (now marks) ≡ 32) × (set < readQuery (now query) .sets) ⌝ }
-    ensures { λ r. ⌜ (length (now (marks .exit)) ≡ 32) × ((ms : Marks) → length ms ≡ n → now (marks .entry) ≡ packMarks ms → now (marks .exit) ≡ packMarks (takeSet (readQuery (now (query .entry))) (nodesOf (now (query .entry))) ms set)) ⌝ }
+    requires { ⌜ Ready (now query) (now nodes) n wanted longest × (length (now marks) ≡ 32) × (choice < 2 ^ readQuery (now query) .sets) ⌝ }
+    ensures { λ r. ⌜ (length (now (marks .exit)) ≡ 32) × ((ms : Marks) → length ms ≡ n → now (marks .entry) ≡ packMarks ms → now (marks .exit) ≡ packMarks (closeUnder (readQuery (now (query .entry))) (nodesOf (now (query .entry))) ms (bitsOf (readQuery (now (query .entry)) .sets) choice))) ⌝ }
 {
     let mut own = [0u8; 16];
-    let m = own::list(query, &mut own, set);
+    let m = own::list(query, &mut own, choice);
     let mut visited = [0u8; 32];
     loop {
         let added = pass(

@@ -1,3 +1,3 @@
-// The closure of a set of nodes under one set of dependencies, as marks.
+// The closure of a set of nodes under the dependencies of the sets in force, as marks.
 pub mod close;
 mod own;

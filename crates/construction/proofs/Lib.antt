@@ -1,4 +1,2 @@
 -- What the proofs of this crate's functions cite.
-pub mod HeldLaws
-pub mod StoreLaws
 pub mod LeavesLaws

@@ -1,12 +1,17 @@
-// The map of the scratch: where each part begins. The numbered states come first, 128 times 32 bytes, then their successors, 128 rows of 8; the starts, 8; and the
-// held words, 128 times two bytes.
-pub const SUCCESSORS_PART: usize = 4096;
+// The map of the scratch: where each part begins. The first two bytes are free. Then comes the held word of each pair of a produced order and a choice of sets in force,
+// 2,048 words at most.
+pub const WORDS_PART: usize = 2;
 
-pub const STARTS_PART: usize = 5120;
+// The rows, 128 times two bytes: while they are numbered, a produced order and a choice that give the row; then its held word. Then the successors, 128 rows of 8; and
+// the starts, 8.
+pub const HELD_PART: usize = 4098;
 
-pub const STARTS_LENGTH: usize = 8;
+pub const SUCCESSORS_PART: usize = 4354;
 
-pub const HELD_PART: usize = 5128;
+pub const STARTS_PART: usize = 5378;
+
+// The different sets of orderings under one choice, 8 times 32 bytes.
+pub const STATES_PART: usize = 5386;
 
 // Behind a build, in the first bytes: the pairs of states that are reached together, a bit for each of 128 times 128.
 pub const PAIRS_LENGTH: usize = 2048;

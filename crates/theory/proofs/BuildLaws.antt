@@ -1,26 +1,31 @@
 -- Constructing, and every outcome of a build, mean what the refusal list says.
-use Prim.Native.Nat.{ℕ, _≤_, _<_}
+use Prim.Native.Nat.{ℕ, _^_, _≤_, _<_}
 use native.Mathlib.Omega.{arith}
-use mathlib.Core.Path.{_≡_}
+use mathlib.Core.Path.{_≡_, sym, _∙_, ap, subst}
 use mathlib.Core.Bool.{Bool, true, false}
+use mathlib.Core.Logic.{_↔_}
+use mathlib.Core.List.{List·Memᴰ}
 use lib.Dec.{ltb}
 use lib.ListN.{length}
+use borrow.Author.Tests.{ltb-false, lt-ltb, le-ltb, eq-eqb}
 use Rattle.theory.specs.Tests.{Says, holds, fails}
-use Rattle.theory.specs.Limits.{maxNodes, maxStates, scratchLength}
-use Rattle.theory.specs.Orders.{Query}
+use Rattle.theory.specs.Limits.{maxNodes, maxStates, maxSets, scratchLength}
+use Rattle.theory.specs.Orders.{Order, Query}
 use Rattle.theory.specs.Closure.{More}
-use Rattle.theory.specs.Construction.{Node, State, nodes, states, sizesOf, construction}
+use Rattle.theory.specs.Construction.{Node, nodes}
+use Rattle.theory.specs.States.{State, states}
 use Rattle.theory.specs.Refusals.{passed, orderings-refused, states-refused, space-refused}
-use Rattle.theory.specs.Query.{Bytes, readQuery, queryRefusal}
+use Rattle.theory.specs.Query.{Bytes, setCount, readQuery, queryRefusal}
 use Rattle.theory.specs.Table.{Table, writeTable}
 use Rattle.theory.specs.Build.{Constructed, too-many, table, queryTable, construct, Constructs, many-orderings, many-states, its-table, Outcome, refused, built, delivered, outcome, Means, query-refused, scratch-short, not-constructed, output-short, table-built}
-use Rattle.theory.proofs.Reflect.{says-eqb, says-ltb, decides-marks}
-use Rattle.theory.proofs.NodeLaws.{nodes-many}
-use Rattle.theory.proofs.MachineLaws.{numbered-many}
+use Rattle.theory.proofs.Reflect.{false-says, says-eqb, says-ltb}
+use Rattle.theory.proofs.NodeLaws.{nodes-exactly, nodes-many}
+use Rattle.theory.proofs.StatesListed.{states-many, states-choices}
+use Rattle.theory.proofs.QueryLaws.{query-sizes, produced-count, set-count}
 
--- past the limit exactly when there are more states
-pub states-many : (q : Query) → Says (More maxStates (State q (nodes q))) (ltb maxStates (length (states q (nodes q))))
-states-many q = numbered-many (construction q (nodes q)) (sizesOf q) decides-marks maxStates
+-- where there are not too many nodes, the computed list has exactly the nodes
+pub nodes-listed : (q : Query) → ¬ More maxNodes (Node q) → (o : Order) → List·Memᴰ o (nodes q) ↔ Node q o
+nodes-listed q n = nodes-exactly q (ltb-false maxNodes (length (nodes q)) (false-says (nodes-many q) n))
 
 module _ (q : Query) where
   -- the checks from the last to the first, each with what comes after it
@@ -36,12 +41,19 @@ module _ (q : Query) where
 
   reached-means : {b : Bool} → Says (More maxNodes (Node q)) b → Constructs q (reached b)
   reached-means (holds n) = many-orderings n
-  reached-means (fails n) = numbered-means n (states-many q)
+  reached-means (fails n) = numbered-means n (states-many q (nodes q) (nodes-listed q n) maxStates)
 
   -- What is constructed means what the list says.
   pub construct-means : Constructs q (construct q)
   unfolding construct
   construct-means = reached-means (nodes-many q)
+
+  -- Eight sets have 256 choices, and a state for each.
+  pub eight-constructed : q .sets ≡ maxSets → 1 ≤ length (q .produced) → ¬ More maxNodes (Node q) → construct q ≡ too-many states-refused
+  unfolding construct
+  eight-constructed e some n =
+      let all : 256 ≤ length (states q (nodes q)) = subst (λ k. 2 ^ k ≤ length (states q (nodes q))) e (states-choices q (nodes q) (nodes-listed q n) some) in
+      ap reached (false-says (nodes-many q) n) ∙ ap numbered (lt-ltb maxStates (length (states q (nodes q))) (omega arith))
 
 module _ (query : Bytes) (scratch output : ℕ) where
   abbrev lent : Bool → Outcome
@@ -73,3 +85,12 @@ module _ (query : Bytes) (scratch output : ℕ) where
   pub outcome-means : Means query scratch output (outcome query scratch output)
   unfolding outcome
   outcome-means = checked-means (says-eqb (queryRefusal query) passed)
+
+  -- A query with eight sets that no earlier check refuses is refused with 8.
+  pub eight-refused : queryRefusal query ≡ passed → scratchLength ≤ scratch → setCount query ≡ maxSets → ¬ More maxNodes (Node (readQuery query)) →
+      outcome query scratch output ≡ refused states-refused
+  unfolding outcome
+  eight-refused c s e n =
+      ap checked (eq-eqb (queryRefusal query) passed c) ∙ ap lent (le-ltb scratch scratchLength s)
+      ∙ ap (λ k. delivered k output)
+      (eight-constructed (readQuery query) (set-count query ∙ e) (subst (λ k. 1 ≤ k) (sym (produced-count query)) (query-sizes query c .some-produced)) n)

@@ -52,6 +52,13 @@ module _ {A : Type 0} {same : A → A → Bool} (dec : Decides same) where
   addAll-has (y ∷ ys) l x m =
       ⊎-elim (λ e. prefix-within (add same l y) (addAll-keeps ys (add same l y)) x (Memᴰ·cast e (add-has l y))) (λ k. addAll-has ys (add same l y) x k) (List·Memᴰ·cases-cons m)
 
+  -- Things added to none stand once, and all of them are among those that were to be added.
+  pub added-distinct : (xs : List A) → Distinct (addAll same [] xs)
+  added-distinct xs = addAll-ind Distinct xs (λ l x m n d. distinct-snoc d n) empty
+
+  pub added-all : (P : A → Type 0) (xs : List A) → ((x : A) → List·Memᴰ x xs → P x) → (x : A) → List·Memᴰ x (addAll same [] xs) → P x
+  added-all P xs here = addAll-ind (λ l. (x : A) → List·Memᴰ x l → P x) xs (λ l x m n all. all-snoc l all (here x m)) (λ x m. absurd (List·Memᴰ·not-nil m))
+
   module _ (out : A → List A) (cap : ℕ) where
     walk-ind : (Q : List A → Type 0) → ((l : List A) (x y : A) → List·Memᴰ x l → List·Memᴰ y (out x) → ¬ List·Memᴰ y l → Q l → Q (l ++ (y ∷ []))) →
         (fuel : ℕ) (l : List A) (i : ℕ) → Q l → Q (walk same out cap fuel l i)
@@ -114,7 +121,7 @@ module _ {A : Type 0} {same : A → A → Bool} (dec : Decides same) where
       pub closure-distinct : Distinct (closure same out cap start)
       closure-distinct =
           walk-ind Distinct (λ l x y m o n d. distinct-snoc d n) (suc cap) (addAll same [] start) zero
-          (addAll-ind Distinct start (λ l x m n d. distinct-snoc d n) empty)
+          (added-distinct start)
 
       -- everything in the list has what the start has and `out` hands on
       pub closure-all : (P : A → Type 0) → ((x : A) → List·Memᴰ x start → P x) → ((x y : A) → P x → List·Memᴰ y (out x) → P y) →
@@ -123,7 +130,7 @@ module _ {A : Type 0} {same : A → A → Bool} (dec : Decides same) where
           walk-ind (λ l. (x : A) → List·Memᴰ x l → P x)
           (λ l x y m o n all. all-snoc l all (on x y (all x m) o))
           (suc cap) (addAll same [] start) zero
-          (addAll-ind (λ l. (x : A) → List·Memᴰ x l → P x) start (λ l x m n all. all-snoc l all (here x m)) (λ x m. absurd (List·Memᴰ·not-nil m)))
+          (added-all P start here)
 
       pub closure-found : (x : A) → List·Memᴰ x (closure same out cap start) → Found out start x
       closure-found = closure-all (Found out start) (λ x m. first m) (λ x y f o. next f o)

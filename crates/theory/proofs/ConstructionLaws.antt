@@ -1,41 +1,38 @@
--- The construction as a machine: its numbered states are its reached states, and it tells the query's derivation.
+-- What is built: the trees of the query's answers are the rows, within the limits, and tell the query's derivation.
 use Prim.Native.Nat.{ℕ, _≤_}
+use native.Mathlib.Omega.{arith}
 use mathlib.Core.Path.{_≡_, refl, sym, _∙_, ap, subst}
 use mathlib.Core.Bool.{false}
-use mathlib.Core.List.{List, [], map}
+use mathlib.Core.Logic.{_↔_}
+use mathlib.Core.List.{List, [], map, List·Memᴰ, Memᴰ·map, Memᴰ·cast}
 use lib.ListN.{length, getD, length-map, length-append}
 use borrow.Author.Tests.{ltb-false}
-use Rattle.theory.specs.Tests.{Says, Decides, upFrom}
+use Rattle.theory.specs.Tests.{Says, Decides, position}
 use Rattle.theory.specs.Limits.{maxNodes, maxStates}
 use Rattle.theory.specs.Orders.{Order, Query, interesting, After}
-use Rattle.theory.specs.Closure.{More, closure}
+use Rattle.theory.specs.Choices.{noSets, withSets}
+use Rattle.theory.specs.Closure.{More}
 use Rattle.theory.specs.Machine.{Sizes, Machine, runs, numberedWithin, Reduced, SameAnswers}
-use Rattle.theory.specs.Construction.{Node, Marks, sameMarks, startState, takeSet, State, nodes, states, sizesOf, holdsIn, construction}
+use Rattle.theory.specs.AnswerTree.{AnswerTree, sameTree}
+use Rattle.theory.specs.Construction.{Node, nodes, sizesOf, holdsIn}
+use Rattle.theory.specs.States.{orderingsUnder, heldUnder, construction, State, states, answersOf, treeOf}
 use Rattle.theory.specs.Refusals.{passed}
-use Rattle.theory.specs.Table.{Table, Sized, Numbered, tableOf, countsOf, numbersOf, writeTable, tableRefusal}
-use Rattle.theory.specs.Merging.{mergedOf, rowsOf}
-use Rattle.theory.specs.Build.{Constructs, its-table, table, statesTable, queryTable}
+use Rattle.theory.specs.Table.{Table, Sized, Numbered, tableOf, walkedTable, countsOf, numbersOf, writeTable, tableRefusal}
+use Rattle.theory.specs.Build.{Constructs, its-table, table, queryTable}
 use Rattle.theory.specs.Lookups.{Tells, Faithful}
-use Rattle.theory.proofs.Reflect.{false-says, decides-number, decides-marks}
+use Rattle.theory.proofs.Reflect.{false-says}
 use Rattle.theory.proofs.ListLaws.{member-getD}
-use Rattle.theory.proofs.RowLaws.{getD-map, entries}
+use Rattle.theory.proofs.RowLaws.{getD-map}
 use Rattle.theory.proofs.NodeLaws.{nodes-exactly, nodes-many}
 use Rattle.theory.proofs.StateLaws.{says-held}
-use Rattle.theory.proofs.MachineLaws.{numbered-exactly, numbered-distinct, Inside}
-use Rattle.theory.proofs.PairLaws.{same-sym, same-trans, covers-reduced}
+use Rattle.theory.proofs.StatesListed.{states-exactly, states-many, states-cover}
+use Rattle.theory.proofs.AnswerLaws.{decides-tree, held-after, answering-reduced}
+use Rattle.theory.proofs.MachineLaws.{numbered-exactly, numbered-distinct, numbered-few, reached-start, reached-runs, Inside}
+use Rattle.theory.proofs.PairLaws.{Covers, same-sym, same-trans, covers-arrives, covers-reduced}
 use Rattle.theory.proofs.MachineTable.{Limited, Enumerated, table-sized, table-numbered, numbers-cover, numbers-answer}
 use Rattle.theory.proofs.SmallestTable.{smallest, one-table}
-use Rattle.theory.proofs.Faithfulness.{same-tells, numbers-tell, faithful-table, table-passes}
-use Rattle.theory.proofs.MergingLaws.{merged-same, merged-reduced, rows-known, merge-is}
-use Rattle.theory.proofs.BuildLaws.{states-many}
-
--- the starts by number are those of the produced orders, so the states are numbered from these
-pub states-walk : (q : Query) (ns : List Order) → states q ns ≡ closure sameMarks (λ ms. map (takeSet q ns ms) (upFrom 0 (q .sets))) maxStates (map (startState ns) (q .produced))
-unfolding numberedWithin
-states-walk q ns =
-    ap (closure sameMarks (λ ms. map (takeSet q ns ms) (upFrom 0 (q .sets))) maxStates)
-    (entries (λ p. startState ns (getD (q .produced) p [])) (map (startState ns) (q .produced)) [] (length (q .produced)) (length-map (q .produced) (startState ns))
-    (λ i h. sym (getD-map (startState ns) (q .produced) i [] [] h)))
+use Rattle.theory.proofs.Faithfulness.{numbers-tell, faithful-table, table-passes}
+use Rattle.theory.proofs.BuildLaws.{nodes-listed}
 
 -- The construction is within its limits.
 pub record Constructible (q : Query) : Type 0 where
@@ -46,59 +43,65 @@ pub constructible : (q : Query) → ¬ More maxNodes (Node q) → ¬ More maxSta
 constructible q n m =
     record {
       few-nodes = ltb-false maxNodes (length (nodes q)) (false-says (nodes-many q) n);
-      few-states = ltb-false maxStates (length (states q (nodes q))) (false-says (states-many q) m);
+      few-states = ltb-false maxStates (length (states q (nodes q))) (false-says (states-many q (nodes q) (nodes-listed q n) maxStates) m);
     }
 
+-- The query's machine, and its rows by number.
+abbrev pub machineOf : (q : Query) → Machine AnswerTree
+machineOf q = answersOf q (nodes q)
+
+abbrev pub rowsOf : (q : Query) → List AnswerTree
+rowsOf q = numberedWithin (machineOf q) maxStates (sizesOf q)
+
+-- The number of a row.
+abbrev pub rowNumber : (q : Query) → AnswerTree → ℕ
+rowNumber q t = position sameTree t (rowsOf q)
+
 module _ (q : Query) (within : Constructible q) where
-  -- its states by number
-  pub states-known : Enumerated (construction q (nodes q)) (sizesOf q) (states q (nodes q))
-  states-known =
+  pub exact : (o : Order) → List·Memᴰ o (nodes q) ↔ Node q o
+  exact = nodes-exactly q (within .few-nodes)
+
+  -- there are no more rows than states
+  rows-few : length (rowsOf q) ≤ maxStates
+  rows-few =
+      numbered-few (machineOf q) (sizesOf q) decides-tree maxStates (map (treeOf q (nodes q)) (states q (nodes q)))
+      (let few = within .few-states in omega (arith, length-map (states q (nodes q)) (treeOf q (nodes q))))
+      (λ t r.
+      let m = construction q (nodes q) in
+      let arrived = reached-runs m (sizesOf q) (r .sets) (r .below) (m .start (r .order)) (reached-start m (sizesOf q) (r .order) (r .produced)) in
+      Memᴰ·cast (sym (covers-arrives m (machineOf q) (states-cover q (nodes q) exact) t r)) (Memᴰ·map (treeOf q (nodes q)) (states-exactly q (nodes q) exact (runs m (m .start (r .order)) (r .sets)) .1 arrived)))
+
+  pub table-few : queryTable q .stateCount ≤ maxStates
+  unfolding tableOf walkedTable
+  table-few = rows-few
+
+  -- what is held after a run of sets
+  held-run : (p : ℕ) (ss : List ℕ) → machineOf q .held (runs (machineOf q) (machineOf q .start p) ss) ≡ heldUnder q (nodes q) (getD (q .produced) p []) (withSets (noSets (q .sets)) ss)
+  held-run p ss = held-after (q .sets) (λ k c. heldUnder q (nodes q) (getD (q .produced) k []) c) p ss
+
+  -- its rows by number
+  pub rows-known : Enumerated (machineOf q) (sizesOf q) (rowsOf q)
+  rows-known =
       record {
-        decides = decides-marks;
-        few = within .few-states;
-        exactly = numbered-exactly (construction q (nodes q)) (sizesOf q) decides-marks maxStates (within .few-states);
-        wide = λ ms r. length-map (interesting q) (λ o. holdsIn (nodes q) ms o) ∙ length-append (q .produced) (q .tested);
+        decides = decides-tree;
+        few = rows-few;
+        exactly = numbered-exactly (machineOf q) (sizesOf q) decides-tree maxStates rows-few;
+        wide = λ t r.
+            ap (λ u. length (machineOf q .held u)) (sym (r .arrives)) ∙ ap length (held-run (r .order) (r .sets))
+            ∙ length-map (interesting q) (λ o. holdsIn (nodes q) (orderingsUnder q (nodes q) (getD (q .produced) (r .order) []) (withSets (noSets (q .sets)) (r .sets))) o) ∙ length-append (q .produced) (q .tested);
       }
 
   -- An interesting order is held after a run exactly when the uncut derivation gives it.
-  pub construction-tells : Tells q (construction q (nodes q))
-  construction-tells p i ss h b l =
+  pub answers-tell : Tells q (machineOf q)
+  answers-tell p i ss h b l =
       let o = getD (interesting q) i [] in
-      let ms = runs (construction q (nodes q)) (construction q (nodes q) .start p) ss in
-      subst (Says (After q (getD (q .produced) p []) ss o)) (sym (getD-map (λ r. holdsIn (nodes q) ms r) (interesting q) i false [] l))
-      (says-held q (nodes q) (nodes-exactly q (within .few-nodes)) (getD (q .produced) p []) o ss (member-getD (q .produced) p [] h) (member-getD (interesting q) i [] l))
+      let ms = orderingsUnder q (nodes q) (getD (q .produced) p []) (withSets (noSets (q .sets)) ss) in
+      subst (Says (After q (getD (q .produced) p []) ss o)) (sym (ap (λ held. getD held i false) (held-run p ss) ∙ getD-map (λ r. holdsIn (nodes q) ms r) (interesting q) i false [] l))
+      (says-held q (nodes q) exact (getD (q .produced) p []) o ss (member-getD (q .produced) p [] h) (member-getD (interesting q) i [] l) b)
 
--- The states' table, merged: its rows are numbered, and it tells the query's derivation.
-module _ (q : Query) (limits : Limited (sizesOf q)) (within : Constructible q) where
-  abbrev machine : Machine Marks
-  machine = construction q (nodes q)
-
-  pub states-sized : Sized (statesTable q)
-  states-sized = table-sized machine (sizesOf q) (states q (nodes q)) limits (states-known q within)
-
-  pub states-numbered : Numbered (statesTable q)
-  states-numbered = table-numbered machine (sizesOf q) (states q (nodes q)) limits (states-known q within)
-
-  pub rows-listed : Enumerated (mergedOf (statesTable q)) (sizesOf q) (rowsOf (statesTable q))
-  unfolding tableOf
-  rows-listed = rows-known (statesTable q) states-sized states-numbered
-
-  pub table-merged : queryTable q ≡ tableOf (mergedOf (statesTable q)) (sizesOf q) (rowsOf (statesTable q))
-  unfolding tableOf
-  table-merged = merge-is (statesTable q) states-sized states-numbered
-
-  merged-answers : SameAnswers (sizesOf q) (numbersOf (statesTable q)) (mergedOf (statesTable q))
-  unfolding tableOf
-  merged-answers = merged-same (statesTable q) states-sized states-numbered
-
-  pub table-reduced : Reduced (sizesOf q) (mergedOf (statesTable q))
-  unfolding tableOf
-  table-reduced = merged-reduced (statesTable q) states-sized states-numbered
-
-  pub merged-tells : Tells q (mergedOf (statesTable q))
-  merged-tells =
-      same-tells q (numbersOf (statesTable q)) (mergedOf (statesTable q)) merged-answers
-      (numbers-tell q machine (states q (nodes q)) limits (states-known q within) (construction-tells q within))
+-- No two rows are alike.
+pub rows-reduced : (q : Query) → Reduced (sizesOf q) (machineOf q)
+rows-reduced q = answering-reduced (sizesOf q) (λ p c. heldUnder q (nodes q) (getD (q .produced) p []) c)
 
 -- What is known where constructing gives a table.
 pub record Made (q : Query) (t : Table) (n : ℕ) : Type 0 where
@@ -110,37 +113,32 @@ pub made : (q : Query) {t : Table} {n : ℕ} → Constructs q (table t n) → Ma
 made q (its-table k m) = record { within = constructible q k m; table-is = refl; count-is = refl }
 
 module _ {q : Query} {t : Table} {n : ℕ} (limits : Limited (sizesOf q)) (d : Made q t n) where
-  -- the table is that of the merged machine
-  abbrev rows : List ℕ
-  rows = rowsOf (statesTable q)
+  -- the table is that of the query's machine
+  known : Enumerated (machineOf q) (sizesOf q) (rowsOf q)
+  known = rows-known q (d .within)
 
-  abbrev smallest-machine : Machine ℕ
-  smallest-machine = mergedOf (statesTable q)
+  tells : Tells q (machineOf q)
+  tells = answers-tell q (d .within)
 
-  known : Enumerated smallest-machine (sizesOf q) rows
-  known = rows-listed q limits (d .within)
-
-  tells : Tells q smallest-machine
-  tells = merged-tells q limits (d .within)
-
-  by-rows : (P : Table → Type 0) → P (tableOf smallest-machine (sizesOf q) rows) → P t
-  by-rows P = subst P (sym (d .table-is ∙ table-merged q limits (d .within)))
+  by-rows : (P : Table → Type 0) → P (tableOf (machineOf q) (sizesOf q) (rowsOf q)) → P t
+  unfolding walkedTable
+  by-rows P = subst P (sym (d .table-is))
 
   pub made-sized : Sized t
-  made-sized = by-rows Sized (table-sized smallest-machine (sizesOf q) rows limits known)
+  made-sized = by-rows Sized (table-sized (machineOf q) (sizesOf q) (rowsOf q) limits known)
 
   pub made-numbered : Numbered t
-  made-numbered = by-rows Numbered (table-numbered smallest-machine (sizesOf q) rows limits known)
+  made-numbered = by-rows Numbered (table-numbered (machineOf q) (sizesOf q) (rowsOf q) limits known)
 
   -- the table's numbers, and its bytes, tell the query's derivation
   pub made-tells : Tells q (numbersOf t)
-  made-tells = by-rows (λ k. Tells q (numbersOf k)) (numbers-tell q smallest-machine rows limits known tells)
+  made-tells = by-rows (λ k. Tells q (numbersOf k)) (numbers-tell q (machineOf q) (rowsOf q) limits known tells)
 
   pub made-faithful : Faithful q (writeTable t)
-  made-faithful = by-rows (λ k. Faithful q (writeTable k)) (faithful-table q smallest-machine rows limits known tells)
+  made-faithful = by-rows (λ k. Faithful q (writeTable k)) (faithful-table q (machineOf q) (rowsOf q) limits known tells)
 
   pub made-passes : tableRefusal (writeTable t) ≡ passed
-  made-passes = by-rows (λ k. tableRefusal (writeTable k) ≡ passed) (table-passes q smallest-machine rows limits known)
+  made-passes = by-rows (λ k. tableRefusal (writeTable k) ≡ passed) (table-passes q (machineOf q) (rowsOf q) limits known)
 
   -- the table has the query's sizes
   pub made-sizes : countsOf t ≡ sizesOf q
@@ -150,35 +148,34 @@ module _ {q : Query} {t : Table} {n : ℕ} (limits : Limited (sizesOf q)) (d : M
   pub made-counts : (t .producedCount ≡ length (q .produced)) × (t .testedCount ≡ length (q .tested)) × (t .setCount ≡ q .sets)
   made-counts = (ap (λ (z : Sizes). z .produced) made-sizes, ap (λ (z : Sizes). z .tested) made-sizes, ap (λ (z : Sizes). z .sets) made-sizes)
 
+  -- its rows are the numbers of the trees
+  pub made-cover : Covers (sizesOf q) (machineOf q) (numbersOf t) (rowNumber q)
+  made-cover = by-rows (λ k. Covers (sizesOf q) (machineOf q) (numbersOf k) (rowNumber q)) (numbers-cover (machineOf q) (sizesOf q) (rowsOf q) limits known)
+
   -- No two of its rows that are reached are alike.
-  reduced : Reduced (sizesOf q) smallest-machine
-  reduced = table-reduced q limits (d .within)
-
   pub made-reduced : Reduced (sizesOf q) (numbersOf t)
-  made-reduced =
-      by-rows (λ k. Reduced (sizesOf q) (numbersOf k))
-      (covers-reduced smallest-machine (numbersOf (tableOf smallest-machine (sizesOf q) rows)) (numbers-cover smallest-machine (sizesOf q) rows limits known) reduced)
+  made-reduced = covers-reduced (machineOf q) (numbersOf t) made-cover (rows-reduced q)
 
-  answers : SameAnswers (sizesOf q) smallest-machine (numbersOf t)
+  answers : SameAnswers (sizesOf q) (machineOf q) (numbersOf t)
   answers =
-      by-rows (λ k. SameAnswers (sizesOf q) smallest-machine (numbersOf k))
-      (same-sym (sizesOf q) (numbersOf (tableOf smallest-machine (sizesOf q) rows)) smallest-machine (numbers-answer smallest-machine (sizesOf q) rows limits known))
+      by-rows (λ k. SameAnswers (sizesOf q) (machineOf q) (numbersOf k))
+      (same-sym (sizesOf q) (numbersOf (tableOf (machineOf q) (sizesOf q) (rowsOf q))) (machineOf q) (numbers-answer (machineOf q) (sizesOf q) (rowsOf q) limits known))
 
-  pub made-count : t .stateCount ≡ length rows
+  pub made-count : t .stateCount ≡ length (rowsOf q)
   unfolding tableOf
-  made-count = by-rows (λ k. k .stateCount ≡ length rows) refl
+  made-count = by-rows (λ k. k .stateCount ≡ length (rowsOf q)) refl
 
   -- No machine of fewer states has the same answers, ..
   pub made-smallest : (k : Machine ℕ) (b : ℕ) → Inside k (sizesOf q) b → SameAnswers (sizesOf q) (numbersOf t) k → t .stateCount ≤ b
   made-smallest k b inside same =
       subst (λ n. n ≤ b) (sym made-count)
-      (smallest (sizesOf q) smallest-machine reduced k b inside (same-trans (sizesOf q) smallest-machine (numbersOf t) k answers same) rows
-      (numbered-distinct smallest-machine (countsOf (statesTable q)) decides-number maxStates) (λ x i. known .exactly x .0 i))
+      (smallest (sizesOf q) (machineOf q) (rows-reduced q) k b inside (same-trans (sizesOf q) (machineOf q) (numbersOf t) k answers same) (rowsOf q)
+      (numbered-distinct (machineOf q) (sizesOf q) decides-tree maxStates) (λ x i. known .exactly x .0 i))
 
   -- .. and every reduced machine with the same answers has this table.
   pub made-only : {X : Type 0} (k : Machine X) → Decides (k .same) → Reduced (sizesOf q) k → length (numberedWithin k maxStates (sizesOf q)) ≤ maxStates →
       SameAnswers (sizesOf q) (numbersOf t) k → t ≡ tableOf k (sizesOf q) (numberedWithin k maxStates (sizesOf q))
-  unfolding tableOf
+  unfolding tableOf walkedTable
   made-only k decides reduced′ few same =
-      d .table-is ∙ table-merged q limits (d .within)
-      ∙ one-table (sizesOf q) smallest-machine k decides-number decides (same-trans (sizesOf q) smallest-machine (numbersOf t) k answers same) reduced reduced′ maxStates (known .few) few
+      d .table-is
+      ∙ one-table (sizesOf q) (machineOf q) k decides-tree decides (same-trans (sizesOf q) (machineOf q) (numbersOf t) k answers same) (rows-reduced q) reduced′ maxStates (known .few) few

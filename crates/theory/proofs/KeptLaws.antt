@@ -5,7 +5,7 @@ use mathlib.Core.Path.{_≡_, refl, sym, _∙_, ap, subst}
 use mathlib.Core.Bool.{Bool, true, false}
 use mathlib.Core.Logic.{_⊎_, inl, inr, ⊎-elim}
 use mathlib.Core.List.{List, [], _∷_, _++_, append-nil, append-assoc, List·Memᴰ, List·Memᴰ·head, List·Memᴰ·tail, List·Memᴰ·cases-cons, IsPrefix, tail-eq-of-cons-eq, nil≢cons}
-use Rattle.theory.specs.Orders.{Order, Orderings, Rule, Same, Change, shorten, insert, behind, before, instead, Step, at, Reach, given, step, Taken, whole}
+use Rattle.theory.specs.Orders.{Order, Orderings, Rule, Same, Change, shorten, insert, behind, before, instead, Step, at, Reach, given, step, whole}
 use Rattle.theory.specs.Construction.{keep, keepFirst}
 use Rattle.theory.proofs.ListLaws.{prefix-within}
 
@@ -97,15 +97,11 @@ module _ (w : ℕ → Bool) where
   member-keep m o {c} k = prefix-within (keep w m o) (keep-prefix m o) c k
 
   -- (a) What the kept derivation gives, the uncut one gives: a kept part is a prefix, and prefixes are steps.
-  reach-uncut : (n : ℕ) (rs : List Rule) (X Y : Orderings) → Within X Y → Within (Reach (keep w n) rs X) (Reach whole rs Y)
+  pub reach-uncut : (n : ℕ) (rs : List Rule) (X Y : Orderings) → Within X Y → Within (Reach (keep w n) rs X) (Reach whole rs Y)
   reach-uncut n rs X Y f o (given g) = given (f o g)
   reach-uncut n rs X Y f _ (step {o} {r} m s) =
       let p = keep-prefix n r in
       reach-prefix cut-whole rs Y (λ q k. refl) (keep w n r) (p .0) (subst (Reach whole rs Y) (sym (p .1)) (step (reach-uncut n rs X Y f o m) s))
-
-  pub taken-uncut : (n : ℕ) (rss : List (List Rule)) (X Y : Orderings) → Within X Y → Within (Taken (keep w n) X rss) (Taken whole Y rss)
-  taken-uncut n [] X Y f = f
-  taken-uncut n (rs ∷ rss) X Y f = taken-uncut n rss (Reach (keep w n) rs X) (Reach whole rs Y) (reach-uncut n rs X Y f)
 
   -- (b) The kept part of what the uncut derivation gives is in the kept derivation.
   module _ (n : ℕ) (rs : List Rule) (together : (a b : ℕ) → Same rs a b → w a ≡ w b) (X Y : Orderings) (here : (o : Order) → Y o → keep w n o ≡ o) where
@@ -154,14 +150,6 @@ module _ (w : ℕ → Bool) where
     step-kept (at p {s} {t} c) k =
         ⊎-elim (λ f. subst Kept (f s ∙ sym (f t)) k) (λ f. subst Kept (sym (f .1 t)) (change-kept p (f .0) (f .1) c (subst Kept (f .1 s) k))) (keep-split n p)
 
-    reach-kept : ((o : Order) → X o → Y (keep w n o)) → (o : Order) → Reach whole rs X o → Kept (keep w n o)
+    pub reach-kept : ((o : Order) → X o → Y (keep w n o)) → (o : Order) → Reach whole rs X o → Kept (keep w n o)
     reach-kept f o (given g) = given (f o g)
     reach-kept f _ (step {o} m s) = step-kept s (reach-kept f o m)
-
-  pub taken-kept : (n : ℕ) (rss : List (List Rule)) → ((rs : List Rule) → List·Memᴰ rs rss → (a b : ℕ) → Same rs a b → w a ≡ w b) →
-      (X Y : Orderings) → ((o : Order) → Y o → keep w n o ≡ o) → ((o : Order) → X o → Y (keep w n o)) →
-      (o : Order) → Taken whole X rss o → Taken (keep w n) Y rss (keep w n o)
-  taken-kept n [] t X Y here f = f
-  taken-kept n (rs ∷ rss) t X Y here f =
-      taken-kept n rss (λ qs m. t qs (List·Memᴰ·tail m)) (Reach whole rs X) (Reach (keep w n) rs Y) (reach-cut (cut-keep n) rs Y here)
-      (reach-kept n rs (t rs (List·Memᴰ·head refl)) X Y here f)

@@ -1,18 +1,16 @@
 -- The numbered states of a machine are exactly the reached ones, each once, or there are more than the limit; states that are alike; and machines of numbers that stay below one.
 use Prim.Native.Nat.{ℕ, zero, _≤_, _<_}
 use native.Mathlib.Omega.{arith}
-use mathlib.Core.Path.{_≡_, refl, _∙_, ap, subst, sym}
+use mathlib.Core.Path.{_≡_, refl, _∙_, ap, subst}
 use mathlib.Core.Logic.{_↔_}
 use mathlib.Core.List.{List, [], _∷_, _++_, map, List·Memᴰ, List·Memᴰ·head, List·Memᴰ·tail, List·Memᴰ·not-nil, Memᴰ·map, Memᴰ·of-map}
-use lib.Dec.{ltb}
 use lib.ListN.{length}
-use Rattle.theory.specs.Tests.{Says, Decides, Distinct, upFrom}
-use Rattle.theory.specs.Closure.{Found, first, next, More}
-use Rattle.theory.specs.Machine.{Sizes, Machine, AllBelow, runs, Reached, numberedWithin, Alike}
-use Rattle.theory.proofs.Reflect.{says-as}
+use Rattle.theory.specs.Tests.{Decides, Distinct, upFrom}
+use Rattle.theory.specs.Closure.{Found, first, next}
+use Rattle.theory.specs.Machine.{Sizes, Machine, AllBelow, runs, Reached, numberedWithin}
 use Rattle.theory.proofs.ListLaws.{member-upFrom, upFrom-member}
-use Rattle.theory.proofs.RowLaws.{all-snoc, all-cons}
-use Rattle.theory.proofs.ClosureLaws.{closure-distinct, closure-found, closure-complete, closure-few, closure-many, more-as}
+use Rattle.theory.proofs.RowLaws.{all-snoc}
+use Rattle.theory.proofs.ClosureLaws.{closure-distinct, closure-found, closure-complete, closure-few}
 
 -- no set, one set more in front, and one more behind
 pub below-nil : (n : ℕ) → AllBelow n []
@@ -93,28 +91,6 @@ module _ {X : Type 0} (m : Machine X) where
       pub numbered-few : (xs : List X) → length xs ≤ cap → ((x : X) → Reached m z x → List·Memᴰ x xs) → length (numberedWithin m cap z) ≤ cap
       unfolding numberedWithin
       numbered-few xs h w = closure-few decides moves cap starts xs h (λ x f. w x (found-reached x f))
-
-      -- past it exactly when there are more states
-      pub numbered-many : Says (More cap (Reached m z)) (ltb cap (length (numberedWithin m cap z)))
-      unfolding numberedWithin
-      numbered-many = says-as (more-as found-reached) (more-as reached-found) (closure-many decides moves cap starts)
-
--- Alike is an equivalence, and taking a set keeps it.
-module _ {X : Type 0} (z : Sizes) (m : Machine X) where
-  pub alike-refl : (x : X) → Alike z m x x
-  alike-refl x ss b = refl
-
-  pub alike-sym : (x y : X) → Alike z m x y → Alike z m y x
-  alike-sym x y a ss b = sym (a ss b)
-
-  pub alike-trans : (x y w : X) → Alike z m x y → Alike z m y w → Alike z m x w
-  alike-trans x y w a c ss b = a ss b ∙ c ss b
-
-  pub alike-held : (x y : X) → Alike z m x y → m .held x ≡ m .held y
-  alike-held x y a = a [] (below-nil (z .sets))
-
-  pub alike-next : (x y : X) (s : ℕ) → s < z .sets → Alike z m x y → Alike z m (m .next x s) (m .next y s)
-  alike-next x y s h a ss b = a (s ∷ ss) (all-cons h b)
 
 -- A machine whose states are numbers stays below n.
 pub record Inside (m : Machine ℕ) (z : Sizes) (n : ℕ) : Type 0 where

@@ -43,6 +43,24 @@ module _ {X Y : Type 0} {z : Sizes} (m : Machine X) (k : Machine Y) {f : X → Y
   pub covers-same : SameAnswers z m k
   covers-same p ss h b = covers-held (m .start p) (reached-start m z p h) ss b ∙ ap (λ y. k .held (runs k y ss)) (c .starts p h)
 
+  -- A run leads to states that go to each other.
+  pub covers-after : (p : ℕ) (ss : List ℕ) → p < z .produced → AllBelow (z .sets) ss → f (runs m (m .start p) ss) ≡ runs k (k .start p) ss
+  covers-after p ss h b = covers-runs ss b (m .start p) (reached-start m z p h) ∙ ap (λ n. runs k n ss) (c .starts p h)
+
+  pub covers-arrives : (x : Y) (r : Reached k z x) → f (runs m (m .start (r .order)) (r .sets)) ≡ x
+  covers-arrives x r = covers-after (r .order) (r .sets) (r .produced) (r .below) ∙ r .arrives
+
+  -- What is reached in the one goes to what is reached in the other.
+  pub covers-reached : (x : X) → Reached m z x → Reached k z (f x)
+  covers-reached x r =
+      record {
+        order = r .order;
+        produced = r .produced;
+        sets = r .sets;
+        below = r .below;
+        arrives = sym (covers-after (r .order) (r .sets) (r .produced) (r .below)) ∙ ap f (r .arrives);
+      }
+
   -- Where it is reduced, so is the second.
   pub covers-reduced : Reduced z m → Reduced z k
   covers-reduced reduced x y r u a =
@@ -57,10 +75,6 @@ module _ {X Y : Type 0} {z : Sizes} (m : Machine X) (k : Machine Y) {f : X → Y
       (reduced v w reached reached′
       (λ ss b. covers-held v reached ss b ∙ ap (λ n. k .held (runs k n ss)) goes ∙ a ss b ∙ sym (covers-held w reached′ ss b ∙ ap (λ n. k .held (runs k n ss)) goes′)))
       ∙ goes′
-    where
-      covers-arrives : (x : Y) (r : Reached k z x) → f (runs m (m .start (r .order)) (r .sets)) ≡ x
-      covers-arrives x r =
-          covers-runs (r .sets) (r .below) (m .start (r .order)) (reached-start m z (r .order) (r .produced)) ∙ ap (λ n. runs k n (r .sets)) (c .starts (r .order) (r .produced)) ∙ r .arrives
 
 -- where a test does not pass at each element, there is one at which it fails
 every-fails : {A : Type 0} (test : A → Bool) (l : List A) → every test l ≡ false → (x : A) × List·Memᴰ x l × (test x ≡ false)

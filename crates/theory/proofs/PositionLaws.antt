@@ -1,20 +1,20 @@
 -- The number of a thing in a list: where it stands, that it stays when the list grows, and that it is the same among the images of things told apart by them. Adding a thing to a list gives a new one the next number; things added one after the other.
 use Prim.Native.Nat.{ℕ, zero, suc, _+_, _<_, _≤_, zero-le, suc-le-suc}
-use native.Mathlib.Nat.{not-suc-le-zero, le-of-suc-le-suc, lt-of-lt-of-le, zero-add}
+use native.Mathlib.Nat.{not-suc-le-zero, le-of-suc-le-suc, lt-of-lt-of-le}
 use native.Mathlib.Omega.{arith}
 use mathlib.Core.Path.{_≡_, refl, sym, _∙_, ap}
 use mathlib.Core.Bool.{Bool, true, false}
 use mathlib.Core.Logic.{⊎-elim}
 use mathlib.Core.List.{List, [], _∷_, _++_, map, map-append, List·Memᴰ, List·Memᴰ·head, List·Memᴰ·tail, List·Memᴰ·not-nil, List·Memᴰ·cases-cons, Memᴰ·map, Memᴰ·of-map, Memᴰ·cast, IsPrefix, append-nil, append-assoc, List·Memᴰ·eq-of-singleton}
 use lib.Dec.{ltb}
-use lib.ListN.{length, take, drop, getD, length-map, length-append}
-use lib.Seq.{take-length, length-take-le, getD-take, drop-cons, ext-getD}
+use lib.ListN.{length, take, drop, getD}
+use lib.Seq.{take-length, length-take-le, getD-take, drop-cons}
 use borrow.Author.Count.{below-none, below-more}
-use Rattle.theory.specs.Tests.{Says, holds, fails, Decides, member, position, Distinct, also, upFrom}
+use Rattle.theory.specs.Tests.{Says, holds, fails, Decides, member, position, Distinct, also}
 use Rattle.theory.specs.Closure.{add, addAll}
 use Rattle.theory.proofs.Reflect.{says-member, says-ltb, says-as, says-one, true-says, false-says}
-use Rattle.theory.proofs.ListLaws.{member-getD, Within, distinct-apart, upFrom-length, upFrom-getD}
-use Rattle.theory.proofs.RowLaws.{all-snoc, all-append, getD-map}
+use Rattle.theory.proofs.ListLaws.{member-getD, Within}
+use Rattle.theory.proofs.RowLaws.{all-snoc, all-append}
 use Rattle.theory.proofs.ClosureLaws.{add-ind}
 
 -- a search passed the first i things: none of them is x
@@ -181,26 +181,3 @@ module _ {A : Type 0} {same : A → A → Bool} (dec : Decides same) where
       ap (λ j. addAll same j l) (add-new dec x k (n x (List·Memᴰ·head refl)))
       ∙ addAll-distinct l (k ++ (x ∷ [])) d (λ y i m. all-append {P = λ w. ¬ (y ≡ w)} k (λ w j e. n y (List·Memᴰ·tail i) (Memᴰ·cast e j)) (λ w j e. new (Memᴰ·cast (sym (e ∙ List·Memᴰ·eq-of-singleton j)) i)) y m refl)
       ∙ append-assoc k (x ∷ []) l
-
-  -- different things, in their sequence, have the numbers from 0 on
-  pub in-order : (d : A) (l : List A) → Distinct l → map (λ x. position same x l) l ≡ upFrom 0 (length l)
-  in-order d l r =
-      ext-getD 0 (map (λ x. position same x l) l) (upFrom 0 (length l)) (length-map l (λ x. position same x l) ∙ sym (upFrom-length 0 (length l)))
-      (λ i h.
-      let low : i < length l = rw length-map at h in
-      getD-map (λ x. position same x l) l i 0 d low
-      ∙ position-is dec (getD l i d) l i d (omega arith) (λ k b. distinct-apart d r i k low b) (λ b. refl)
-      ∙ sym (upFrom-getD 0 (length l) i 0 low ∙ zero-add i))
-
-module _ {A : Type 0} where
-  -- no more things are added than there are
-  pub added-few : (same : A → A → Bool) (xs l : List A) → length (addAll same l xs) ≤ length l + length xs
-  added-few same [] l = omega arith
-  added-few same (x ∷ xs) l =
-      let rest = added-few same xs (add same l x) in
-      let one : length (add same l x) ≤ suc (length l) = added-one (member same x l) in
-      omega arith
-    where
-      added-one : (b : Bool) → length {A = A} (elim b as (λ (c : Bool). List A) [ true ↦ l | false ↦ l ++ (x ∷ []) ]) ≤ suc (length l)
-      added-one true = omega arith
-      added-one false = omega (arith, length-append l (x ∷ []))

@@ -1,13 +1,13 @@
 -- Document 01, "Orders, dependencies, derivation", on rows: rows that stand in the produced order and obey the dependencies of the sets taken stand in every ordering derived from it.
 use Prim.Native.Nat.{ℕ}
 use native.Mathlib.Nat.{lt-irrefl, lt-trans}
-use mathlib.Core.Path.{_≡_, refl, sym, _∙_, subst}
+use mathlib.Core.Path.{_≡_, sym, _∙_, subst}
 use mathlib.Core.Logic.{_⊎_, inl, inr, ⊎-elim}
-use mathlib.Core.List.{List, [], _∷_, _++_, map, append-nil, List·Memᴰ, List·Memᴰ·head, List·Memᴰ·tail, List·Memᴰ·not-nil, List·Memᴰ·cases-cons}
+use mathlib.Core.List.{List, [], _∷_, _++_, append-nil, List·Memᴰ, List·Memᴰ·not-nil, List·Memᴰ·cases-cons}
 use lib.IntN.{ℤ, pos, negsuc}
 use lib.ListN.{getD}
-use Rattle.theory.specs.Orders.{Order, Orderings, Rule, fix, equal, Query, rulesOf, Same, Change, shorten, insert, behind, before, instead, Step, at, Reach, given, step, Taken, Start, whole, After}
-use Rattle.theory.specs.Rows.{Less, Row, cell, Below, Stands, Obeys, ObeysSets, HoldsOfRows}
+use Rattle.theory.specs.Orders.{Order, Orderings, Rule, fix, equal, Query, rulesOf, Same, Change, shorten, insert, behind, before, instead, Step, at, Reach, given, step, Start, whole, After}
+use Rattle.theory.specs.Rows.{Less, Row, cell, Below, Stands, Obeys, HoldsOfRows}
 use Rattle.theory.proofs.ListLaws.{member-getD}
 
 -- no whole number is less than itself
@@ -62,16 +62,10 @@ module _ (rows : List Row) (rs : List Rule) (obey : (r : Rule) → List·Memᴰ 
   stands-reach start (given {o = o} g) = start o g
   stands-reach start (step r s) = stands-step s (stands-reach start r)
 
--- and so do all sets, taken one after the other
-stands-taken : (q : Query) (rows : List Row) (ss : List ℕ) → ObeysSets q ss rows → (X : Orderings) → ((o : Order) → X o → Stands rows o) → (o : Order) → Taken whole X (map (rulesOf q) ss) o → Stands rows o
-stands-taken q rows [] obey X start o t = start o t
-stands-taken q rows (s ∷ ss) obey X start o t =
-    stands-taken q rows ss (λ s′ m. obey s′ (List·Memᴰ·tail m)) (Reach whole (rulesOf q s) X) (λ o′ r. stands-reach rows (rulesOf q s) (obey s (List·Memᴰ·head refl)) start r) o t
-
 -- rows that stand in an order stand in its prefixes
 stands-start : (rows : List Row) (p : Order) → Stands rows p → (o : Order) → Start p o → Stands rows o
 stands-start rows p st o pre i j ij jn h = st i j ij jn (subst (Below _ _) (pre .1) (below-behind _ _ o (pre .0) [] (λ agree none. absurd none) (rw append-nil h)))
 
--- the row theorem of document 01: rows stand in every derived ordering
+-- The row theorem: rows stand in every derived ordering.
 pub row-theorem : (q : Query) (p : Order) (ss : List ℕ) (o : Order) → After q p ss o → HoldsOfRows q p ss o
-row-theorem q p ss o t rows st obey = stands-taken q rows ss obey (Start p) (stands-start rows p st) o t
+row-theorem q p ss o t rows st obey = stands-reach rows (rulesOf q ss) obey (stands-start rows p st) t

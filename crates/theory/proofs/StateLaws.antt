@@ -1,4 +1,4 @@
--- A state's marked nodes are exactly the orderings that the construction has there.
+-- The orderings under a choice: the marked nodes are exactly the orderings that the construction has under its rules.
 use Prim.Native.Nat.{ℕ, zero, suc, _<_, _≤_, suc-le-suc}
 use native.Mathlib.Nat.{le-refl, not-suc-le-zero, le-of-suc-le-suc}
 use native.Mathlib.Omega.{arith}
@@ -6,49 +6,27 @@ use mathlib.Core.Path.{_≡_, refl, sym, _∙_, ap, ap₂, subst}
 use mathlib.Core.Bool.{Bool, true, false, false≢true}
 use mathlib.Core.Logic.{⊎-elim, _↔_}
 use mathlib.Core.List.{List, [], _∷_, _++_, map, append-nil, List·Memᴰ, List·Memᴰ·head, List·Memᴰ·tail, List·Memᴰ·not-nil, List·Memᴰ·cases-cons, List·Memᴰ·eq-of-singleton, Memᴰ·cast, Memᴰ·map, Memᴰ·of-map, tail-eq-of-cons-eq, head-eq-of-cons-eq, cons≢nil}
-use lib.ListN.{length, getD}
+use lib.Dec.{eqb}
+use lib.ListN.{length, getD, length-map}
 use Rattle.theory.specs.Tests.{Says, member}
-use Rattle.theory.specs.Orders.{Order, Orderings, Rule, Query, interesting, rulesOf, Change, shorten, insert, behind, before, instead, at, Reach, given, step, Taken, Start, sameOrder, After}
+use Rattle.theory.specs.Orders.{Order, Orderings, Query, interesting, Step, Reach, given, Start, sameOrder, After}
+use Rattle.theory.specs.Choices.{Choice, inForce, noSets, withSets, rulesUnder}
 use Rattle.theory.specs.Closure.{Found, first, next, closure}
-use Rattle.theory.specs.Machine.{runs}
-use Rattle.theory.specs.Construction.{kept, keptSteps, KeptAfter, Node, Marks, marks, marked, prefixes, startState, takeSet, holdsIn, construction}
+use Rattle.theory.specs.Machine.{AllBelow}
+use Rattle.theory.specs.Construction.{kept, keptSteps, KeptAfter, Node, Marks, marks, marked, prefixes, startState, holdsIn}
+use Rattle.theory.specs.States.{closeUnder, orderingsUnder}
 use Rattle.theory.proofs.Reflect.{says-as, says-one, says-true, true-says, says-member, decides-order}
 use Rattle.theory.proofs.ListLaws.{member-getD, getD-member}
 use Rattle.theory.proofs.RowLaws.{getD-map}
 use Rattle.theory.proofs.ClosureLaws.{closure-found, closure-complete, closure-few}
-use Rattle.theory.proofs.KeptLaws.{Within, PrefixClosed}
-use Rattle.theory.proofs.CutTheorem.{cut-theorem}
+use Rattle.theory.proofs.RuleLaws.{rules-more, rules-same, step-more, reach-wider, reach-through}
+use Rattle.theory.proofs.ChoiceLaws.{taken-force}
+use Rattle.theory.proofs.CutTheorem.{rules-within, cut-theorem}
 use Rattle.theory.proofs.NodeLaws.{found-reach, reach-found, node-next, member-kept-steps}
 
 -- the members of a set of orderings in one form are those in the other
 abbrev pub Alike : Orderings → Orderings → Type 0
 Alike X Y = (o : Order) → X o ↔ Y o
-
-module _ {cut : Order → Order} {rs : List Rule} where
-  pub reach-more : {X Y : Orderings} → Within X Y → Within (Reach cut rs X) (Reach cut rs Y)
-  reach-more f o (given g) = given (f o g)
-  reach-more f _ (step {o} p s) = step (reach-more f o p) s
-
-  -- what is closed already is reached from itself alone
-  pub reach-again : {X : Orderings} → Within (Reach cut rs (Reach cut rs X)) (Reach cut rs X)
-  reach-again o (given g) = g
-  reach-again _ (step {o} p s) = step (reach-again o p) s
-
--- with no rules only prefixes are taken
-change-none : {p s t : Order} → Change [] p s t → (x : ℕ) × (s ≡ x ∷ []) × (t ≡ [])
-change-none (shorten {x}) = (x, refl, refl)
-change-none (insert m w g h) = absurd (List·Memᴰ·not-nil m)
-change-none (behind e m g h) = absurd (⊎-elim List·Memᴰ·not-nil List·Memᴰ·not-nil e)
-change-none (before e g h) = absurd (⊎-elim List·Memᴰ·not-nil List·Memᴰ·not-nil e)
-change-none (instead e g h) = absurd (⊎-elim List·Memᴰ·not-nil List·Memᴰ·not-nil e)
-
-pub reach-none : {cut : Order → Order} {X : Orderings} → PrefixClosed X → ((o : Order) → X o → cut o ≡ o) → Within (Reach cut [] X) X
-reach-none closed own o (given g) = g
-reach-none {cut} {X} closed own _ (step p (at q {s} {t} c)) =
-    let n = change-none c in
-    let here = reach-none closed own (q ++ s) p in
-    let shorter : X (q ++ t) = rw (n .2) (rw append-nil (closed q (n .0 ∷ []) (rw (n .1) at here))) in
-    subst X (sym (own (q ++ t) shorter)) shorter
 
 -- the marked entries are those at which the mark is set
 pub at-marked : (ms : Marks) (ns : List Order) (o : Order) → List·Memᴰ o (marked ms ns) → (i : ℕ) × (i < length ns) × (getD ms i false ≡ true) × (getD ns i [] ≡ o)
@@ -106,6 +84,15 @@ start-prefixes (c ∷ p) [] s = List·Memᴰ·head refl
 start-prefixes (c ∷ p) (d ∷ o) s =
     List·Memᴰ·tail (Memᴰ·cast (ap (λ e. e ∷ o) (head-eq-of-cons-eq (s .1))) (Memᴰ·map (λ r. c ∷ r) (start-prefixes p o (s .0, tail-eq-of-cons-eq (s .1)))))
 
+-- a closed set has a mark for each node
+pub closed-length : (q : Query) (ns : List Order) (ms : Marks) (c : Choice) → length (closeUnder q ns ms c) ≡ length ns
+unfolding closeUnder
+closed-length q ns ms c = length-map ns _
+
+-- a node's kept results under a choice are nodes
+pub node-under : (q : Query) (c : Choice) (o r : Order) → Node q o → Step (rulesUnder q c) o r → Node q (kept q r)
+node-under q c o r n st = node-next q o r n (step-more (rules-within q (inForce c)) st)
+
 module _ (q : Query) (ns : List Order) (exact : (o : Order) → List·Memᴰ o ns ↔ Node q o) where
   -- the orderings of a set of marks
   abbrev pub In : Marks → Orderings
@@ -115,46 +102,75 @@ module _ (q : Query) (ns : List Order) (exact : (o : Order) → List·Memᴰ o n
   unfolding startState
   start-exactly p m o = (
     λ k. prefixes-start p o (marks-exactly ns (prefixes p) o .0 k .1),
-    λ s. marks-exactly ns (prefixes p) o .1 (exact o .1 (record { start = p; produced = m; sets = []; reached = s }), start-prefixes p o s),
+    λ s. marks-exactly ns (prefixes p) o .1 (exact o .1 (record { start = p; produced = m; sets = []; reached = given s }), start-prefixes p o s),
   )
 
-  module _ (s : ℕ) (ms : Marks) where
-    abbrev out : Order → List Order
-    out = keptSteps q (rulesOf q s)
+  -- two sets of nodes with the same orderings have the same marks
+  same-marks : (os ps : List Order) → Alike (In (marks ns os)) (In (marks ns ps)) → marks ns os ≡ marks ns ps
+  same-marks os ps f =
+      marks-canonical ns os ps (λ o m. (λ k. marks-exactly ns ps o .0 (f o .0 (marks-exactly ns os o .1 (m, k))) .1, λ k. marks-exactly ns os o .0 (f o .1 (marks-exactly ns ps o .1 (m, k))) .1))
 
-    -- all that a set gives from nodes are nodes
+  module _ (c : Choice) (ms : Marks) where
+    abbrev out : Order → List Order
+    out = keptSteps q (rulesUnder q c)
+
+    abbrev found : List Order
+    found = closure sameOrder out (length ns) (marked ms ns)
+
+    -- all that the sets in force give from nodes are nodes
     found-nodes : (o : Order) → Found out (marked ms ns) o → List·Memᴰ o ns
     found-nodes o (first m) = marked-within ms ns o m
     found-nodes o (next {x} f m) =
-        let t = member-kept-steps q (rulesOf q s) x o m in
-        exact o .1 (subst (Node q) (t .2) (node-next q s x (t .0) (exact x .0 (found-nodes x f)) (t .1)))
+        let t = member-kept-steps q (rulesUnder q c) x o m in
+        exact o .1 (subst (Node q) (t .2) (node-under q c x (t .0) (exact x .0 (found-nodes x f)) (t .1)))
 
-    few : length (closure sameOrder out (length ns) (marked ms ns)) ≤ length ns
+    few : length found ≤ length ns
     few = closure-few decides-order out (length ns) (marked ms ns) ns (le-refl (length ns)) found-nodes
 
-    -- A state after a set: its nodes are exactly the closure of the nodes before.
-    pub take-exactly : Alike (In (takeSet q ns ms s)) (Reach (kept q) (rulesOf q s) (In ms))
-    unfolding takeSet
-    take-exactly o = (
-      λ k. found-reach q (rulesOf q s) (marked ms ns) (In ms) (λ x m. m) o (closure-found decides-order out (length ns) (marked ms ns) o (marks-exactly ns (closure sameOrder out (length ns) (marked ms ns)) o .0 k .1)),
+    -- What is marked then is exactly what the sets in force give from what was marked.
+    pub close-exactly : Alike (In (closeUnder q ns ms c)) (Reach (kept q) (rulesUnder q c) (In ms))
+    unfolding closeUnder
+    close-exactly o = (
+      λ k. found-reach q (rulesUnder q c) (marked ms ns) (In ms) (λ x m. m) o (closure-found decides-order out (length ns) (marked ms ns) o (marks-exactly ns found o .0 k .1)),
       λ r.
-          let f = reach-found q (rulesOf q s) (marked ms ns) (In ms) (λ x m. m) o r in
-          marks-exactly ns (closure sameOrder out (length ns) (marked ms ns)) o .1 (found-nodes o f, closure-complete decides-order out (length ns) (marked ms ns) few o f),
+          let f = reach-found q (rulesUnder q c) (marked ms ns) (In ms) (λ x m. m) o r in
+          marks-exactly ns found o .1 (found-nodes o f, closure-complete decides-order out (length ns) (marked ms ns) few o f),
     )
 
-  pub takes-exactly : (ss : List ℕ) (ms : Marks) (X : Orderings) → Alike (In ms) X → Alike (In (runs (construction q ns) ms ss)) (Taken (kept q) X (map (rulesOf q) ss))
-  takes-exactly [] ms X f = f
-  takes-exactly (s ∷ ss) ms X f =
-      takes-exactly ss (takeSet q ns ms s) (Reach (kept q) (rulesOf q s) X)
-      (λ o. (λ k. reach-more (λ x m. f x .0 m) o (take-exactly s ms o .0 k), λ r. take-exactly s ms o .1 (reach-more (λ x m. f x .1 m) o r)))
+  -- where that is the same, so are the marks
+  pub close-same : (ms ks : Marks) (c d : Choice) → Alike (Reach (kept q) (rulesUnder q c) (In ms)) (Reach (kept q) (rulesUnder q d) (In ks)) → closeUnder q ns ms c ≡ closeUnder q ns ks d
+  unfolding closeUnder
+  close-same ms ks c d f =
+      same-marks (found c ms) (found d ks) (λ o. (λ k. close-exactly d ks o .1 (f o .0 (close-exactly c ms o .0 k)), λ k. close-exactly c ms o .1 (f o .1 (close-exactly d ks o .0 k))))
 
-  -- A state's nodes are exactly the orderings that the construction has after the sets.
-  pub state-exactly : (p : Order) → List·Memᴰ p (q .produced) → (ss : List ℕ) → Alike (In (runs (construction q ns) (startState ns p) ss)) (KeptAfter q p ss)
-  state-exactly p m ss = takes-exactly ss (startState ns p) (Start p) (start-exactly p m)
+  -- What more sets in force give from what some of them gave is what they give at once.
+  pub close-again : (ms : Marks) (c d : Choice) → ((s : ℕ) → inForce c s ≡ true → inForce d s ≡ true) → closeUnder q ns (closeUnder q ns ms c) d ≡ closeUnder q ns ms d
+  close-again ms c d wider =
+      let more = rules-more (inForce c) (inForce d) (q .dependencies) wider in
+      close-same (closeUnder q ns ms c) ms d d
+      (λ o. (
+        λ r. reach-through more o (reach-wider (λ x m. m) (λ x k. close-exactly c ms x .0 k) o r),
+        λ r. reach-wider (λ x m. m) (λ x k. close-exactly c ms x .1 (given k)) o r,
+      ))
+
+  -- The orderings under a choice are those that the construction has under its rules, ..
+  pub orderings-exactly : (p : Order) → List·Memᴰ p (q .produced) → (c : Choice) → Alike (In (orderingsUnder q ns p c)) (Reach (kept q) (rulesUnder q c) (Start p))
+  orderings-exactly p m c o = (
+    λ k. reach-wider (λ x i. i) (λ x i. start-exactly p m x .0 i) o (close-exactly c (startState ns p) o .0 k),
+    λ r. close-exactly c (startState ns p) o .1 (reach-wider (λ x i. i) (λ x i. start-exactly p m x .1 i) o r),
+  )
+
+  -- .. and so those that it has after the sets that are in force.
+  pub orderings-after : (p : Order) → List·Memᴰ p (q .produced) → (ss : List ℕ) → AllBelow (q .sets) ss → Alike (In (orderingsUnder q ns p (withSets (noSets (q .sets)) ss))) (KeptAfter q p ss)
+  orderings-after p m ss l =
+      subst (λ rs. Alike (In (orderingsUnder q ns p (withSets (noSets (q .sets)) ss))) (Reach (kept q) rs (Start p)))
+      (rules-same (inForce (withSets (noSets (q .sets)) ss)) (λ s. member eqb s ss) (q .dependencies) (λ d i. taken-force (q .sets) ss l (d .set)))
+      (orderings-exactly p m (withSets (noSets (q .sets)) ss))
 
   -- An interesting order is held there exactly when the uncut derivation gives it.
-  pub says-held : (p o : Order) (ss : List ℕ) → List·Memᴰ p (q .produced) → List·Memᴰ o (interesting q) → Says (After q p ss o) (holdsIn ns (runs (construction q ns) (startState ns p) ss) o)
-  says-held p o ss mp mo =
+  pub says-held : (p o : Order) (ss : List ℕ) → List·Memᴰ p (q .produced) → List·Memᴰ o (interesting q) → AllBelow (q .sets) ss →
+      Says (After q p ss o) (holdsIn ns (orderingsUnder q ns p (withSets (noSets (q .sets)) ss)) o)
+  says-held p o ss mp mo l =
       let c = cut-theorem q p o ss mp mo in
-      let e = state-exactly p mp ss o in
-      says-as (λ k. c .1 (e .0 k)) (λ a. e .1 (c .0 a)) (says-member decides-order o (marked (runs (construction q ns) (startState ns p) ss) ns))
+      let e = orderings-after p mp ss l o in
+      says-as (λ k. c .1 (e .0 k)) (λ a. e .1 (c .0 a)) (says-member decides-order o (marked (orderingsUnder q ns p (withSets (noSets (q .sets)) ss)) ns))

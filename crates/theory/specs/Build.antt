@@ -11,23 +11,20 @@ use Rattle.theory.specs.Tests.{pick}
 use Rattle.theory.specs.Limits.{maxNodes, maxStates, scratchLength}
 use Rattle.theory.specs.Orders.{Query}
 use Rattle.theory.specs.Closure.{More}
-use Rattle.theory.specs.Construction.{Node, State, nodes, states, sizesOf, construction}
+use Rattle.theory.specs.Construction.{Node, nodes, sizesOf}
+use Rattle.theory.specs.States.{State, states, answersOf}
 use Rattle.theory.specs.Refusals.{passed, orderings-refused, states-refused, space-refused}
 use Rattle.theory.specs.Query.{Bytes, readQuery, queryRefusal}
-use Rattle.theory.specs.Table.{Table, tableOf, writeTable}
-use Rattle.theory.specs.Merging.{mergeTable}
+use Rattle.theory.specs.Table.{Table, walkedTable, writeTable}
 
 -- Constructing ends with a refusal's number, 7 or 8, or with a table and the count of nodes.
 pub data Constructed : Type 0 where
   too-many : ℕ → Constructed
   table : Table → ℕ → Constructed
 
--- The table of a query's states before merging, and the table of the query: the smallest one.
-abbrev pub statesTable : Query → Table
-statesTable q = tableOf (construction q (nodes q)) (sizesOf q) (states q (nodes q))
-
+-- The table of a query: the smallest one.
 abbrev pub queryTable : Query → Table
-queryTable q = mergeTable (statesTable q)
+queryTable q = walkedTable (sizesOf q) (answersOf q (nodes q))
 
 -- Constructing, for a query that passed checks 1 to 6: 7, then 8, which counts the states before merging.
 unfoldable pub construct : Query → Constructed
@@ -35,9 +32,7 @@ construct q =
     let ns = nodes q in
     elim (ltb maxNodes (length ns)) [
       | true ↦ too-many orderings-refused
-      | false ↦
-          let sts = states q ns in
-          elim (ltb maxStates (length sts)) [ true ↦ too-many states-refused | false ↦ table (mergeTable (tableOf (construction q ns) (sizesOf q) sts)) (length ns) ]
+      | false ↦ elim (ltb maxStates (length (states q ns))) [ true ↦ too-many states-refused | false ↦ table (walkedTable (sizesOf q) (answersOf q ns)) (length ns) ]
     ]
 
 -- What it means: 7 exactly when there are more than 256 nodes, else 8 exactly when there are more than 128 states, else the query's table.

@@ -1,14 +1,14 @@
--- Document 01, "The construction": L, wanted columns, kept parts, nodes, states and their numbers, as functions that compute.
+-- Document 01, "The construction": L, wanted columns, kept parts, nodes, as functions that compute.
 use Prim.Native.Nat.{ℕ, zero, suc, _-_, max}
 use mathlib.Core.Bool.{Bool, true, false, Bool·beq}
 use mathlib.Core.List.{List, [], _∷_, _++_, map, dropLast, List·Memᴰ, flatten}
 use lib.Dec.{eqb}
 use lib.ListN.{length, take, drop, getD}
 use Rattle.theory.specs.Tests.{pick, member, position, sameList, upFrom, largest}
-use Rattle.theory.specs.Orders.{Order, Orderings, sameOrder, Rule, fix, equal, Query, interesting, rulesOf, allRules, Taken, Start}
-use Rattle.theory.specs.Limits.{maxNodes, maxStates}
+use Rattle.theory.specs.Orders.{Order, Orderings, sameOrder, Rule, fix, equal, Query, interesting, rulesOf, allRules, Reach, Start}
+use Rattle.theory.specs.Limits.{maxNodes}
 use Rattle.theory.specs.Closure.{closure}
-use Rattle.theory.specs.Machine.{Sizes, Machine, Reached, numberedWithin}
+use Rattle.theory.specs.Machine.{Sizes}
 
 -- L is the length of the longest interesting order.
 abbrev pub longest : Query → ℕ
@@ -97,9 +97,9 @@ steps rs o = shorter o ++ flatten (map (λ r. results r o) rs)
 unfoldable pub keptSteps : Query → List Rule → Order → List Order
 keptSteps q rs o = map (kept q) (steps rs o)
 
--- The orderings that the construction has after taking the sets ss from the start order p.
+-- The orderings that the construction has after the sets ss from the start order p: all that steps under these sets together give.
 abbrev pub KeptAfter : Query → Order → List ℕ → Orderings
-KeptAfter q p ss = Taken (kept q) (Start p) (map (rulesOf q) ss)
+KeptAfter q p ss = Reach (kept q) (rulesOf q ss) (Start p)
 
 -- A *node* is an ordering reached from any start by any sets.
 pub record Node (q : Query) (o : Order) : Type 0 where
@@ -139,32 +139,10 @@ prefixes (c ∷ o) = [] ∷ map (λ p. c ∷ p) (prefixes o)
 unfoldable pub startState : List Order → Order → Marks
 startState ns p = marks ns (prefixes p)
 
--- Taking set s adds all that steps under that one set give, repeated until nothing is added.
-unfoldable pub takeSet : Query → List Order → Marks → ℕ → Marks
-takeSet q ns ms s = marks ns (closure sameOrder (keptSteps q (rulesOf q s)) (length ns) (marked ms ns))
-
 -- The sizes of a query.
 abbrev pub sizesOf : Query → Sizes
 sizesOf q = record { produced = length (q .produced); tested = length (q .tested); sets = q .sets }
 
--- An order is held in a state when it is one of its orderings.
+-- An order is held among some orderings when it is one of them.
 abbrev pub holdsIn : List Order → Marks → Order → Bool
 holdsIn ns ms o = member sameOrder o (marked ms ns)
-
--- The construction as a machine: its states are sets of nodes.
-abbrev pub construction : Query → List Order → Machine Marks
-construction q ns =
-    record {
-      start = λ p. startState ns (getD (q .produced) p []);
-      next = takeSet q ns;
-      held = λ ms. map (λ o. holdsIn ns ms o) (interesting q);
-      same = sameMarks;
-    }
-
--- A *state* is a set of nodes reached from a start by some sets.
-abbrev pub State : Query → List Order → Marks → Type 0
-State q ns = Reached (construction q ns) (sizesOf q)
-
--- The states by number.
-abbrev pub states : Query → List Order → List Marks
-states q ns = numberedWithin (construction q ns) maxStates (sizesOf q)

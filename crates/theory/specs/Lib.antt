@@ -2,14 +2,16 @@
 pub mod Tests
 pub mod Limits
 pub mod Orders
+pub mod Choices
 pub mod Rows
 pub mod Closure
 pub mod Machine
+pub mod AnswerTree
 pub mod Construction
+pub mod States
 pub mod Refusals
 pub mod Query
 pub mod Table
-pub mod Merging
 pub mod Scratch
 pub mod Build
 pub mod Lookups

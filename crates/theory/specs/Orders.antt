@@ -1,10 +1,10 @@
--- Document 01, "Orders, dependencies, derivation": what an order and a dependency are, one step, the start, taking a set. Uncut, as relations.
+-- Document 01, "Orders, dependencies, derivation": what an order and a dependency are, one step, the start; and what is derived after some sets. Uncut, as relations.
 use Prim.Native.Nat.{ℕ}
 use mathlib.Core.Bool.{Bool}
 use mathlib.Core.Logic.{_⊎_}
 use mathlib.Core.List.{List, [], _∷_, _++_, map, List·Memᴰ, IsPrefix}
 use lib.Dec.{eqb}
-use Rattle.theory.specs.Tests.{pick, sameList}
+use Rattle.theory.specs.Tests.{pick, member, sameList}
 
 -- A column is a number. An order, and a derived ordering, is a list of columns, most significant first; the empty one is an unsorted scan.
 abbrev pub Order : Type 0
@@ -36,13 +36,14 @@ pub record Query : Type 0 where
 abbrev pub interesting : Query → List Order
 interesting q = q .produced ++ q .tested
 
--- The rules of the dependencies that belong to set s.
-abbrev pub rulesIn : ℕ → List Dependency → List Rule
-rulesIn s [] = []
-rulesIn s (d ∷ ds) = pick (eqb (d .set) s) (d .rule ∷ rulesIn s ds) (rulesIn s ds)
+-- The rules of the dependencies whose set passes a test.
+abbrev pub rulesIn : (ℕ → Bool) → List Dependency → List Rule
+rulesIn test [] = []
+rulesIn test (d ∷ ds) = pick (test (d .set)) (d .rule ∷ rulesIn test ds) (rulesIn test ds)
 
-abbrev pub rulesOf : Query → ℕ → List Rule
-rulesOf q s = rulesIn s (q .dependencies)
+-- The rules of all the sets ss together.
+abbrev pub rulesOf : Query → List ℕ → List Rule
+rulesOf q ss = rulesIn (λ s. member eqb s ss) (q .dependencies)
 
 -- All rules, whatever their set.
 abbrev pub allRules : Query → List Rule
@@ -79,11 +80,6 @@ pub data Reach (cut : Order → Order) (rs : List Rule) (X : Orderings) : Order 
   given : {o : Order} → X o → Reach cut rs X o
   step : {o r : Order} → Reach cut rs X o → Step rs o r → Reach cut rs X (cut r)
 
--- The sets, each by its rules, are taken one after the other. A set is used when it is taken and not remembered.
-abbrev pub Taken : (Order → Order) → Orderings → List (List Rule) → Orderings
-Taken cut X [] = X
-Taken cut X (rs ∷ rss) = Taken cut (Reach cut rs X) rss
-
 -- The start from an order: that order and all its prefixes.
 abbrev pub Start : Order → Orderings
 Start p o = IsPrefix o p
@@ -92,6 +88,7 @@ Start p o = IsPrefix o p
 abbrev pub whole : Order → Order
 whole o = o
 
--- The orderings derived from the start order p by taking the sets ss in their sequence. Everything that speaks of derivation goes through this name.
+-- Document 02, Req 03: the orderings derived from the start order p after the sets ss are all that steps under these sets together give from the start. Everything
+-- that speaks of derivation goes through this name.
 abbrev pub After : Query → Order → List ℕ → Orderings
-After q p ss = Taken whole (Start p) (map (rulesOf q) ss)
+After q p ss = Reach whole (rulesOf q ss) (Start p)

@@ -38,7 +38,7 @@ Obeys rows (equal a b) = (x : Row) → List·Memᴰ x rows → cell x a ≡ cell
 
 -- Rows obey every dependency of the sets ss.
 abbrev pub ObeysSets : Query → List ℕ → List Row → Type 0
-ObeysSets q ss rows = (s : ℕ) → List·Memᴰ s ss → (r : Rule) → List·Memᴰ r (rulesOf q s) → Obeys rows r
+ObeysSets q ss rows = (r : Rule) → List·Memᴰ r (rulesOf q ss) → Obeys rows r
 
 -- Any rows stand in o that stand in p and obey every dependency of the sets ss.
 abbrev pub HoldsOfRows : Query → Order → List ℕ → Order → Type 0

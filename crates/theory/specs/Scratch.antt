@@ -1,24 +1,40 @@
 -- The map of the scratch: where each part begins, and what constructing leaves there for writing.
-use Prim.Native.Nat.{ℕ, _*_, _≤_}
+use Prim.Native.Nat.{ℕ, suc, _+_, _*_, _^_, _≤_}
 use mathlib.Core.Path.{_≡_}
 use mathlib.Core.List.{map, flatten}
 use lib.ListN.{length, take, drop}
 use Rattle.theory.specs.Limits.{heldWidth}
-use Rattle.theory.specs.Query.{Bytes}
+use Rattle.theory.specs.Query.{Bytes, byteAt}
 use Rattle.theory.specs.Table.{Table, heldBytes}
 
--- The numbered states come first, 128 times 32 bytes. Then the successors, 128 rows of 8; the starts, 8; and the held words, 128 times two bytes.
+-- The first two bytes are free. Then comes the held word of each pair of a produced order and a choice, low byte first: produced order by produced order, the choices
+-- counted upwards, 2,048 words at most.
+abbrev pub wordsPart : ℕ
+wordsPart = 2
+
+abbrev pub pairAt : ℕ → ℕ → ℕ → ℕ
+pairAt sets p x = wordsPart + heldWidth * (p * 2 ^ sets + x)
+
+abbrev pub wordAt : ℕ → Bytes → ℕ → ℕ → ℕ
+wordAt sets work p x = byteAt work (pairAt sets p x) + 256 * byteAt work (suc (pairAt sets p x))
+
+-- The rows, 128 times two bytes: while they are numbered, a produced order and a choice that give the row; then its held word. Then the successors, 128 rows of 8;
+-- and the starts, 8.
+abbrev pub heldPart : ℕ
+heldPart = 4098
+
 abbrev pub successorsPart : ℕ
-successorsPart = 4096
+successorsPart = 4354
 
 abbrev pub startsPart : ℕ
-startsPart = 5120
+startsPart = 5378
 
-abbrev pub heldPart : ℕ
-heldPart = 5128
+-- The different sets of orderings under one choice, 8 times 32 bytes.
+abbrev pub statesPart : ℕ
+statesPart = 5386
 
 abbrev pub workLength : ℕ
-workLength = 5384
+workLength = 5642
 
 -- Behind a build, in the first bytes: the pairs of states that are reached together, a bit for each of 128 times 128.
 abbrev pub pairsLength : ℕ

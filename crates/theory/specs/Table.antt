@@ -7,7 +7,7 @@ use lib.Dec.{eqb, ltb}
 use lib.ListN.{length, take, drop, getD}
 use Rattle.theory.specs.Tests.{pick, position, upFrom}
 use Rattle.theory.specs.Limits.{maxStates, maxProduced, maxTested, maxSets, tableSizes, heldWidth}
-use Rattle.theory.specs.Machine.{Sizes, Machine}
+use Rattle.theory.specs.Machine.{Sizes, Machine, numberedWithin}
 use Rattle.theory.specs.Refusals.{passed, length-refused, size-refused, handle-refused, row-refused, firstRefusal, firstOf}
 use Rattle.theory.specs.Query.{Bytes, byteAt, rowAt, outside}
 
@@ -52,6 +52,10 @@ tableOf m z xs =
       successors = map (λ x. map (λ s. position (m .same) (m .next x s) xs) (upFrom 0 (z .sets))) xs;
       held = map (λ x. m .held x) xs;
     }
+
+-- The table of a machine, its states numbered by the walk.
+unfoldable pub walkedTable : {X : Type 0} → Sizes → Machine X → Table
+walkedTable z m = tableOf m z (numberedWithin m maxStates z)
 
 -- A table's sizes, and a table as a machine: its states are their numbers.
 abbrev pub countsOf : Table → Sizes

@@ -1,8 +1,9 @@
 -- Tests that compute, and small functions on lists that the definitions share. No term of document 01 is defined here.
-use Prim.Native.Nat.{ℕ, zero, suc, max}
+use Prim.Native.Nat.{ℕ, zero, suc, _/_, _%_, max}
 use mathlib.Core.Path.{_≡_}
 use mathlib.Core.Bool.{Bool, true, false, _&&_}
 use mathlib.Core.List.{List, [], _∷_, List·Memᴰ}
+use lib.Dec.{eqb}
 
 -- the first value where the test passes, else the second
 abbrev pub pick : {A : Type 0} → Bool → A → A → A
@@ -60,3 +61,8 @@ upFrom k (suc n) = k ∷ upFrom (suc k) n
 abbrev pub largest : List ℕ → ℕ
 largest [] = zero
 largest (n ∷ ns) = max n (largest ns)
+
+-- the lowest n bits of a number, the lowest first
+abbrev pub bitsOf : ℕ → ℕ → List Bool
+bitsOf zero x = []
+bitsOf (suc n) x = eqb (x % 2) 1 ∷ bitsOf n (x / 2)

@@ -9,11 +9,13 @@ use Rattle.theory.specs.Limits.{maxNodes, scratchLength, longestTable}
 use Rattle.theory.specs.Tests.{Says, every, sameList}
 use Rattle.theory.specs.Orders.{Order, Query, interesting, After}
 use Rattle.theory.specs.Closure.{More, Exactly}
-use Rattle.theory.specs.Machine.{AllBelow, runs, numberedWithin}
-use Rattle.theory.specs.Construction.{Node, Marks, sameMarks, nodes, holdsIn, State, sizesOf, construction}
+use Rattle.theory.specs.Choices.{noSets, withSets}
+use Rattle.theory.specs.Machine.{AllBelow, runs}
+use Rattle.theory.specs.Construction.{Node, Marks, nodes, holdsIn}
+use Rattle.theory.specs.States.{orderingsUnder, State, states}
 use Rattle.theory.specs.Refusals.{passed}
 use Rattle.theory.specs.Query.{Bytes, readQuery, queryRefusal}
-use Rattle.theory.specs.Table.{statesIn}
+use Rattle.theory.specs.Table.{statesIn, machineIn}
 use Rattle.theory.specs.Build.{Outcome, refused, built, outcome}
 use Rattle.theory.specs.Verification.{verifyRefusal}
 
@@ -29,8 +31,8 @@ pub data Expectation : Type 0 where
   state-count : ℕ → Expectation
   -- after a produced order, by number, and the sets an interesting order, by number, is held or not
   after : ℕ → List ℕ → ℕ → Bool → Expectation
-  -- from a produced order, by number, two lists of sets lead to one state
-  same-state : ℕ → List ℕ → List ℕ → Expectation
+  -- from a produced order, by number, two lists of sets lead to one row
+  same-row : ℕ → List ℕ → List ℕ → Expectation
   -- the trial of a supplier's table comes to this number, 0 where it is accepted
   verified : Bytes → ℕ → Expectation
 
@@ -75,20 +77,34 @@ pub record Run (q : Query) (p : ℕ) (ss : List ℕ) : Type 0 where
 abbrev pub isRun : Query → ℕ → List ℕ → Bool
 isRun q p ss = ltb p (length (q .produced)) && every (λ s. ltb s (q .sets)) ss
 
--- The state after a produced order and sets, by their numbers.
-abbrev pub stateAfter : Query → List Order → ℕ → List ℕ → Marks
-stateAfter q ns p ss = runs (construction q ns) (construction q ns .start p) ss
+-- The orderings after a produced order and sets, by their numbers.
+abbrev pub orderingsAfter : Query → List Order → ℕ → List ℕ → Marks
+orderingsAfter q ns p ss = orderingsUnder q ns (getD (q .produced) p []) (withSets (noSets (q .sets)) ss)
+
+-- The row of a table at which a run arrives, and that two runs arrive at one row of the table that the build gives.
+abbrev pub rowAfter : Bytes → ℕ → List ℕ → ℕ
+rowAfter t p ss = runs (machineIn t) (machineIn t .start p) ss
+
+pub record OneRow (query : Bytes) (p : ℕ) (ss rs : List ℕ) : Type 0 where
+  pub written : Bytes
+  pub count : ℕ
+  pub gives : outcomeOf query ≡ built written count
+  pub one : rowAfter written p ss ≡ rowAfter written p rs
+
+abbrev pub isOneRow : Outcome → ℕ → List ℕ → List ℕ → Bool
+isOneRow (refused r) p ss rs = false
+isOneRow (built t n) p ss rs = eqb (rowAfter t p ss) (rowAfter t p rs)
 
 -- The trial comes out as expected: a test that computes, ..
 unfoldable pub comesOut : Bytes → Query → List Order → Expectation → Bool
 comesOut query q ns (table b n) = sameOutcome (outcomeOf query) (built b n)
 comesOut query q ns (builds m b n) = hasSizes (outcomeOf query) m b n
 comesOut query q ns (refusal n) = sameOutcome (outcomeOf query) (refused n)
-comesOut query q ns (state-count n) = isAdmitted query ns && eqb (length (numberedWithin (construction q ns) n (sizesOf q))) n
+comesOut query q ns (state-count n) = isAdmitted query ns && eqb (length (states q ns)) n
 comesOut query q ns (after p ss i held) =
-    isAdmitted query ns && (isRun q p ss && (ltb i (length (interesting q)) && Bool·beq (holdsIn ns (stateAfter q ns p ss) (getD (interesting q) i [])) held))
+    isAdmitted query ns && (isRun q p ss && (ltb i (length (interesting q)) && Bool·beq (holdsIn ns (orderingsAfter q ns p ss) (getD (interesting q) i [])) held))
 comesOut query q ns (verified t n) = eqb (verifyRefusal query t scratchLength) n
-comesOut query q ns (same-state p ss rs) = isAdmitted query ns && (isRun q p ss && (isRun q p rs && sameMarks (stateAfter q ns p ss) (stateAfter q ns p rs)))
+comesOut query q ns (same-row p ss rs) = isRun q p ss && (isRun q p rs && isOneRow (outcomeOf query) p ss rs)
 
 abbrev pub passes : Trial → Bool
 passes t = let q = readQuery (t .query) in let ns = nodes q in comesOut (t .query) q ns (t .expected)
@@ -102,7 +118,7 @@ Meaning query q ns (state-count n) = Admitted query × Exactly n (State q ns)
 Meaning query q ns (after p ss i held) =
     Admitted query × Run q p ss × (i < length (interesting q)) × Says (After q (getD (q .produced) p []) ss (getD (interesting q) i [])) held
 Meaning query q ns (verified t n) = verifyRefusal query t scratchLength ≡ n
-Meaning query q ns (same-state p ss rs) = Admitted query × Run q p ss × Run q p rs × (stateAfter q ns p ss ≡ stateAfter q ns p rs)
+Meaning query q ns (same-row p ss rs) = Run q p ss × Run q p rs × OneRow query p ss rs
 
 abbrev pub Meets : Bytes → Expectation → Type 0
 Meets query = Meaning query (readQuery query) (nodes (readQuery query))
@@ -116,8 +132,8 @@ abbrev pub both-ways : Bytes
 both-ways = 3 ∷ 1 ∷ 1 ∷ 2 ∷ 2 ∷ 1 ∷ 3 ∷ 16 ∷ 17 ∷ 0 ∷ 255 ∷ 255 ∷ 255 ∷ 0 ∷ 2 ∷ 1 ∷ 255 ∷ 0 ∷ 1 ∷ 255 ∷ 255 ∷ 0 ∷ 2 ∷ 255 ∷ 255 ∷ []
 
 -- Produced (a), tested (a,b,c), sets 0 {b → c}, 1 {a → b}.
-abbrev pub not-remembered : Bytes
-not-remembered = 3 ∷ 1 ∷ 1 ∷ 2 ∷ 2 ∷ 1 ∷ 3 ∷ 16 ∷ 17 ∷ 0 ∷ 255 ∷ 255 ∷ 255 ∷ 0 ∷ 1 ∷ 2 ∷ 255 ∷ 1 ∷ 2 ∷ 255 ∷ 255 ∷ 0 ∷ 1 ∷ 255 ∷ 255 ∷ []
+abbrev pub in-force-together : Bytes
+in-force-together = 3 ∷ 1 ∷ 1 ∷ 2 ∷ 2 ∷ 1 ∷ 3 ∷ 16 ∷ 17 ∷ 0 ∷ 255 ∷ 255 ∷ 255 ∷ 0 ∷ 1 ∷ 2 ∷ 255 ∷ 1 ∷ 2 ∷ 255 ∷ 255 ∷ 0 ∷ 1 ∷ 255 ∷ 255 ∷ []
 
 -- Produced (), tested (k), set {constant k}.
 abbrev pub constant : Bytes
@@ -155,23 +171,31 @@ repeated-column = 2 ∷ 1 ∷ 0 ∷ 0 ∷ 0 ∷ 2 ∷ 0 ∷ 0 ∷ 255 ∷ 255 �
 abbrev pub column-past-the-end : Bytes
 column-past-the-end = 2 ∷ 1 ∷ 0 ∷ 0 ∷ 0 ∷ 1 ∷ 2 ∷ 255 ∷ 255 ∷ 255 ∷ []
 
+-- Produced (a), tested (a,c), sets {a → b}, {b = c}.
+abbrev pub through-an-equal : Bytes
+through-an-equal = 3 ∷ 1 ∷ 1 ∷ 2 ∷ 2 ∷ 1 ∷ 2 ∷ 16 ∷ 65 ∷ 0 ∷ 255 ∷ 255 ∷ 255 ∷ 0 ∷ 2 ∷ 255 ∷ 255 ∷ 0 ∷ 1 ∷ 255 ∷ 255 ∷ 1 ∷ 2 ∷ 255 ∷ 255 ∷ []
+
+-- Produced (a), tested (a,b,c,d), sets {c → d}, {b → c}, {a → b}.
+abbrev pub three-in-force : Bytes
+three-in-force = 4 ∷ 1 ∷ 1 ∷ 3 ∷ 3 ∷ 1 ∷ 4 ∷ 16 ∷ 17 ∷ 18 ∷ 0 ∷ 255 ∷ 255 ∷ 255 ∷ 0 ∷ 1 ∷ 2 ∷ 3 ∷ 2 ∷ 3 ∷ 255 ∷ 255 ∷ 1 ∷ 2 ∷ 255 ∷ 255 ∷ 0 ∷ 1 ∷ 255 ∷ 255 ∷ []
+
 -- The starred trials, in document 01's order, with the tables of document 02; behind them the running query, which has as many rows as its paper has states, three.
 abbrev pub trials : List Trial
 trials =
     record { query = example; expected = table (4 ∷ 2 ∷ 2 ∷ 2 ∷ 0 ∷ 1 ∷ 2 ∷ 0 ∷ 1 ∷ 3 ∷ 2 ∷ 2 ∷ 3 ∷ 3 ∷ 1 ∷ 0 ∷ 2 ∷ 0 ∷ 5 ∷ 0 ∷ 10 ∷ 0 ∷ []) 10 } ∷
     record { query = both-ways; expected = after 0 (0 ∷ 1 ∷ []) 1 true } ∷
     record { query = both-ways; expected = after 0 (1 ∷ 0 ∷ []) 1 true } ∷
-    record { query = not-remembered; expected = after 0 (0 ∷ 1 ∷ []) 1 false } ∷
-    record { query = not-remembered; expected = after 0 (1 ∷ 0 ∷ []) 1 true } ∷
-    record { query = not-remembered; expected = after 0 (0 ∷ 1 ∷ 0 ∷ []) 1 true } ∷
+    record { query = in-force-together; expected = after 0 (0 ∷ 1 ∷ []) 1 true } ∷
+    record { query = in-force-together; expected = after 0 (1 ∷ 0 ∷ []) 1 true } ∷
+    record { query = in-force-together; expected = after 0 (0 ∷ 1 ∷ 0 ∷ []) 1 true } ∷
     record { query = constant; expected = after 0 [] 1 false } ∷
     record { query = constant; expected = after 0 (0 ∷ []) 1 true } ∷
     record { query = equal-pair; expected = after 0 (0 ∷ []) 1 true } ∷
     record { query = fix-pair; expected = after 0 (0 ∷ []) 1 false } ∷
-    record { query = example; expected = same-state 0 (0 ∷ 0 ∷ []) (0 ∷ []) } ∷
-    record { query = example; expected = same-state 1 (1 ∷ 1 ∷ []) (1 ∷ []) } ∷
-    record { query = with-empty-set; expected = same-state 0 (2 ∷ []) [] } ∷
-    record { query = with-empty-set; expected = same-state 1 (1 ∷ 2 ∷ []) (1 ∷ []) } ∷
+    record { query = example; expected = same-row 0 (0 ∷ 0 ∷ []) (0 ∷ []) } ∷
+    record { query = example; expected = same-row 1 (1 ∷ 1 ∷ []) (1 ∷ []) } ∷
+    record { query = with-empty-set; expected = same-row 0 (2 ∷ []) [] } ∷
+    record { query = with-empty-set; expected = same-row 1 (1 ∷ 2 ∷ []) (1 ∷ []) } ∷
     record { query = seven-sets; expected = state-count 128 } ∷
     record { query = seven-sets; expected = builds 128 1157 9 } ∷
     record { query = eight-sets; expected = state-count 256 } ∷
@@ -179,7 +203,7 @@ trials =
     record { query = repeated-column; expected = refusal 5 } ∷
     record { query = column-past-the-end; expected = refusal 4 } ∷
     record { query = running-query; expected = table (3 ∷ 2 ∷ 1 ∷ 2 ∷ 0 ∷ 1 ∷ 0 ∷ 0 ∷ 2 ∷ 1 ∷ 2 ∷ 2 ∷ 1 ∷ 0 ∷ 2 ∷ 0 ∷ 6 ∷ 0 ∷ []) 6 } ∷
-    record { query = running-query; expected = state-count 4 } ∷
+    record { query = running-query; expected = state-count 8 } ∷
     []
 
 -- Document 02, Req 01: suppliers' tables on trial. Accepted: our own, one with a row for each state of the construction, one with other state numbers, one with two rows
@@ -188,12 +212,12 @@ trials =
 abbrev pub supplied : List Trial
 supplied =
     record { query = example; expected = verified (4 ∷ 2 ∷ 2 ∷ 2 ∷ 0 ∷ 1 ∷ 2 ∷ 0 ∷ 1 ∷ 3 ∷ 2 ∷ 2 ∷ 3 ∷ 3 ∷ 1 ∷ 0 ∷ 2 ∷ 0 ∷ 5 ∷ 0 ∷ 10 ∷ 0 ∷ []) 0 } ∷
-    record { query = example; expected = verified (5 ∷ 2 ∷ 2 ∷ 2 ∷ 0 ∷ 1 ∷ 2 ∷ 0 ∷ 1 ∷ 3 ∷ 2 ∷ 4 ∷ 3 ∷ 3 ∷ 4 ∷ 4 ∷ 1 ∷ 0 ∷ 2 ∷ 0 ∷ 5 ∷ 0 ∷ 10 ∷ 0 ∷ 5 ∷ 0 ∷ []) 0 } ∷
+    record { query = example; expected = verified (8 ∷ 2 ∷ 2 ∷ 2 ∷ 0 ∷ 1 ∷ 2 ∷ 3 ∷ 4 ∷ 5 ∷ 2 ∷ 6 ∷ 6 ∷ 3 ∷ 4 ∷ 7 ∷ 7 ∷ 5 ∷ 6 ∷ 6 ∷ 7 ∷ 7 ∷ 1 ∷ 0 ∷ 2 ∷ 0 ∷ 5 ∷ 0 ∷ 1 ∷ 0 ∷ 2 ∷ 0 ∷ 10 ∷ 0 ∷ 5 ∷ 0 ∷ 10 ∷ 0 ∷ []) 0 } ∷
     record { query = example; expected = verified (4 ∷ 2 ∷ 2 ∷ 2 ∷ 2 ∷ 0 ∷ 0 ∷ 1 ∷ 1 ∷ 1 ∷ 3 ∷ 2 ∷ 3 ∷ 3 ∷ 2 ∷ 0 ∷ 10 ∷ 0 ∷ 1 ∷ 0 ∷ 5 ∷ 0 ∷ []) 0 } ∷
     record { query = example; expected = verified (6 ∷ 2 ∷ 2 ∷ 2 ∷ 0 ∷ 1 ∷ 2 ∷ 0 ∷ 1 ∷ 3 ∷ 2 ∷ 4 ∷ 5 ∷ 3 ∷ 4 ∷ 4 ∷ 3 ∷ 5 ∷ 1 ∷ 0 ∷ 2 ∷ 0 ∷ 5 ∷ 0 ∷ 10 ∷ 0 ∷ 5 ∷ 0 ∷ 10 ∷ 0 ∷ []) 0 } ∷
     record { query = constant; expected = verified (3 ∷ 1 ∷ 1 ∷ 1 ∷ 0 ∷ 2 ∷ 0 ∷ 2 ∷ 1 ∷ 0 ∷ 2 ∷ 0 ∷ 3 ∷ 0 ∷ []) 0 } ∷
     record { query = example; expected = verified (3 ∷ 2 ∷ 1 ∷ 2 ∷ 0 ∷ 1 ∷ 2 ∷ 0 ∷ 1 ∷ 1 ∷ 2 ∷ 2 ∷ 1 ∷ 0 ∷ 2 ∷ 0 ∷ 5 ∷ 0 ∷ []) 12 } ∷
     record { query = fix-pair; expected = verified (2 ∷ 1 ∷ 1 ∷ 1 ∷ 0 ∷ 1 ∷ 1 ∷ 1 ∷ 0 ∷ 3 ∷ 0 ∷ []) 13 } ∷
-    record { query = both-ways; expected = verified (3 ∷ 1 ∷ 1 ∷ 2 ∷ 0 ∷ 0 ∷ 1 ∷ 2 ∷ 1 ∷ 2 ∷ 2 ∷ 1 ∷ 0 ∷ 1 ∷ 0 ∷ 3 ∷ 0 ∷ []) 13 } ∷
-    record { query = not-remembered; expected = verified (5 ∷ 1 ∷ 1 ∷ 2 ∷ 0 ∷ 1 ∷ 2 ∷ 1 ∷ 3 ∷ 4 ∷ 2 ∷ 3 ∷ 3 ∷ 4 ∷ 4 ∷ 1 ∷ 0 ∷ 1 ∷ 0 ∷ 1 ∷ 0 ∷ 1 ∷ 0 ∷ 3 ∷ 0 ∷ []) 13 } ∷
+    record { query = through-an-equal; expected = verified (1 ∷ 1 ∷ 1 ∷ 2 ∷ 0 ∷ 0 ∷ 0 ∷ 1 ∷ 0 ∷ []) 13 } ∷
+    record { query = three-in-force; expected = verified (4 ∷ 1 ∷ 1 ∷ 3 ∷ 0 ∷ 0 ∷ 0 ∷ 1 ∷ 1 ∷ 2 ∷ 1 ∷ 3 ∷ 2 ∷ 2 ∷ 3 ∷ 3 ∷ 3 ∷ 1 ∷ 0 ∷ 1 ∷ 0 ∷ 1 ∷ 0 ∷ 3 ∷ 0 ∷ []) 13 } ∷
     []

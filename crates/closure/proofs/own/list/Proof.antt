@@ -1,4 +1,4 @@
--- `closure::own::list` meets its contract. The invariant: the set's dependencies among the first i are listed.
+-- `closure::own::list` meets its contract. The invariant: those in force among the first i are listed.
 use Prim.Native.Nat.{_≤_, _-_}
 use native.Mathlib.Nat.{zero-add}
 use native.Mathlib.Omega.{arith}
@@ -14,10 +14,10 @@ use Rattle.closure.proofs.own.list.Statement.{statement}
 use Rattle.closure.proofs.own.list.Tie as tie
 
 abbrev Inv-loop : tie.InvT-loop
-Inv-loop query own₀ set rules m₀ i₀ own m i = (length own ≡ length own₀) × (i ≤ rules) × (m ≤ i) × (take m own ≡ flatten (map (ownAt query set) (upFrom 0 i)))
+Inv-loop query own₀ choice rules m₀ i₀ own m i = (length own ≡ length own₀) × (i ≤ rules) × (m ≤ i) × (take m own ≡ flatten (map (ownAt query choice) (upFrom 0 i)))
 
 abbrev μ-loop : tie.MeasureT-loop
-μ-loop query own₀ set rules m₀ i₀ own m i = rules - i
+μ-loop query own₀ choice rules m₀ i₀ own m i = rules - i
 
 dependencies-requires : tie.Need-dependencies-requires Inv-loop μ-loop
 dependencies-requires c κs = search needs
@@ -40,7 +40,7 @@ loop-again c = let at = c .before .before .before .before .before .loop in let a
   e .0 ∙ at .inv .0,
   omega arith,
   omega (arith, e .1),
-  e .2 ∙ ap (λ l. l ++ ownAt (a .query .now) (a .set) (at .i)) (at .inv .3) ∙ sym (flatten-more (ownAt (a .query .now) (a .set)) 0 (at .i) (at .i) (sym (zero-add (at .i)))),
+  e .2 ∙ ap (λ l. l ++ ownAt (a .query .now) (a .choice) (at .i)) (at .inv .3) ∙ sym (flatten-more (ownAt (a .query .now) (a .choice)) 0 (at .i) (at .i) (sym (zero-add (at .i)))),
 )
 
 same-length : tie.Need-same-length Inv-loop μ-loop

@@ -1,0 +1,53 @@
+// The held words of the pairs, read and written: the word of a pair of a produced order and a choice of sets in force lies in the scratch, low byte first, produced order
+// by produced order and the choices counted upwards. Every function requires what its callers have shown: none is an entry point.
+ghost use mathlib.Core.Path.{_≡_};
+ghost use mathlib.Core.List.{[], _∷_};
+ghost use Prim.Native.Nat.{_+_, _*_, _/_, _%_, _^_, _≤_, _<_};
+ghost use lib.ListN.{length};
+ghost use Rattle.theory.specs.Limits.{maxProduced, maxSets};
+ghost use Rattle.theory.specs.Scratch.{pairAt, wordAt, heldPart};
+ghost use Rattle.byte_rows.specs.Placed.{placed};
+use numbers::limits::HELD_WIDTH;
+use numbers::scratch::WORDS_PART;
+
+// How many choices there are.
+pub fn choices(sets: usize) -> usize
+    requires { ⌜ sets ≤ maxSets ⌝ }
+    ensures { λ r. ⌜ (r ≡ 2 ^ sets) × (r ≤ 256) ⌝ }
+{
+    1usize << sets
+}
+
+// Where the word of produced order p under choice x begins.
+fn place(sets: usize, p: usize, x: usize) -> usize
+    requires { ⌜ (p < maxProduced) × (sets ≤ maxSets) × (x < 2 ^ sets) ⌝ }
+    ensures { λ r. ⌜ (r ≡ pairAt sets p x) × (r + 2 ≤ heldPart) ⌝ }
+{
+    WORDS_PART + HELD_WIDTH * (p * choices(sets) + x)
+}
+
+// Two bytes as a word, low byte first.
+fn word(low: u8, high: u8) -> u16
+    ensures { λ r. ⌜ r ≡ low + 256 * high ⌝ }
+{
+    low as u16 + 256 * (high as u16)
+}
+
+// The word of produced order p under choice x.
+pub fn read(work: &[u8], sets: usize, p: usize, x: usize) -> u16
+    requires { ⌜ (p < maxProduced) × (sets ≤ maxSets) × (x < 2 ^ sets) × (heldPart ≤ length (now work)) ⌝ }
+    ensures { λ r. ⌜ r ≡ wordAt sets (now (work .entry)) p x ⌝ }
+{
+    let at = place(sets, p, x);
+    word(work[at], work[at + 1])
+}
+
+// Write the word of produced order p under choice x. All other bytes keep their values.
+pub fn write(work: &mut [u8], sets: usize, p: usize, x: usize, word: u16)
+    requires { ⌜ (p < maxProduced) × (sets ≤ maxSets) × (x < 2 ^ sets) × (heldPart ≤ length (now work)) ⌝ }
+    ensures { λ r. ⌜ now (work .exit) ≡ placed (pairAt sets p x) (word % 256 ∷ word / 256 ∷ []) (now (work .entry)) ⌝ }
+{
+    let at = place(sets, p, x);
+    work[at] = (word % 256) as u8;
+    work[at + 1] = (word / 256) as u8;
+}

@@ -1,0 +1,37 @@
+-- `table_rows::find::cut_word` meets its contract.
+use Prim.Native.Nat.{_%_}
+use native.Mathlib.Nat.{mod-le}
+use native.Mathlib.Omega.{arith}
+use mathlib.Core.Path.{sym, _∙_, ap₂}
+use denote.Ref.{now}
+use lib.ListN.{take}
+use lib.Seq.{take-take}
+use borrow.Author.Needs.{needs}
+use Rattle.theory.specs.Scratch.{heldPart}
+use Rattle.pair_words.proofs.PairWords.{word-same}
+use Rattle.table_rows.proofs.find.cut_word.Statement.{statement}
+use Rattle.table_rows.proofs.find.cut_word.Tie as tie
+
+read-requires : tie.Need-read-requires
+read-requires c κs = search needs
+
+cast-result : tie.Need-cast-result
+cast-result c = search needs
+
+power-requires : tie.Need-power-requires
+power-requires c κs = search needs
+
+rem-result : tie.Need-rem-result
+rem-result c = search needs
+
+returns : tie.Need-returns
+returns c =
+    let s = c .before .before .before in
+    let a = s .args in
+    let w = now (a .work) in
+    let r = c .before .read in
+    let front = word-same (a .sets) (a .p) (a .x) (omega arith) (omega arith) (s .pre .3) w (take heldPart w) (sym (take-take heldPart heldPart w (omega arith))) in
+    (ap₂ _%_ (r .ensures ∙ front) (c .power .ensures .0), omega (arith, mod-le (r .result) (c .power .result)))
+
+pub cut-word-spec : {M : Type 1} → statement M
+cut-word-spec = tie.close (tie.spec read-requires cast-result power-requires rem-result returns)

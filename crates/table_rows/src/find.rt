@@ -1,0 +1,68 @@
+// Rows compared and found. While rows are numbered, row i is two bytes: a produced order, and the number of a choice of sets in force, that give it.
+ghost use mathlib.Core.Path.{_≡_};
+ghost use Prim.Native.Nat.{_+_, _^_, _≤_, _<_};
+ghost use lib.ListN.{length, take};
+ghost use Rattle.theory.specs.Tests.{position};
+ghost use Rattle.theory.specs.Limits.{maxProduced, maxTested, maxSets};
+ghost use Rattle.theory.specs.AnswerTree.{sameTree};
+ghost use Rattle.theory.specs.Query.{byteAt};
+ghost use Rattle.theory.specs.Scratch.{heldPart, successorsPart};
+ghost use Rattle.table_rows.specs.Walk.{cutWord, stateOf, rowStates, Pairs};
+use numbers::limits::HELD_WIDTH;
+use numbers::scratch::HELD_PART;
+
+// So many bits make numbers below this one.
+fn power(bits: usize) -> usize
+    requires { ⌜ bits ≤ maxProduced + maxTested ⌝ }
+    ensures { λ r. ⌜ (r ≡ 2 ^ bits) × (0 < r) × (r ≤ 65536) ⌝ }
+{
+    1usize << bits
+}
+
+// The word of produced order p under choice x, without the bits that do not count.
+pub fn cut_word(work: &[u8], bits: usize, sets: usize, p: usize, x: usize) -> usize
+    requires { ⌜ (bits ≤ maxProduced + maxTested) × (p < maxProduced) × (sets ≤ maxSets) × (x < 2 ^ sets) × (heldPart ≤ length (now work)) ⌝ }
+    ensures { λ r. ⌜ (r ≡ cutWord bits sets (take heldPart (now (work .entry))) p x) × (r < 65536) ⌝ }
+{
+    pair_words::read(work, sets, p, x) as usize % power(bits)
+}
+
+// Whether two pairs give the same row: they hold the same under every choice of further sets.
+fn same_row(work: &[u8], bits: usize, sets: usize, p: usize, m: usize, q: usize, k: usize) -> bool
+    requires { ⌜ (bits ≤ maxProduced + maxTested) × (sets ≤ maxSets) × (p < maxProduced) × (m < 2 ^ sets) × (q < maxProduced) × (k < 2 ^ sets) × (heldPart ≤ length (now work)) ⌝ }
+    ensures { λ r. ⌜ r ≡ sameTree (stateOf bits sets (take heldPart (now (work .entry))) p m) (stateOf bits sets (take heldPart (now (work .entry))) q k) ⌝ }
+{
+    let choices = pair_words::choices(sets);
+    let mut x = 0;
+    while x < choices {
+        if cut_word(work, bits, sets, p, m | x) != cut_word(work, bits, sets, q, k | x) {
+            return false;
+        }
+        x += 1;
+    }
+    true
+}
+
+// A byte as a number.
+pub fn byte(work: &[u8], at: usize) -> usize
+    requires { ⌜ at < length (now work) ⌝ }
+    ensures { λ r. ⌜ r ≡ byteAt (now (work .entry)) at ⌝ }
+{
+    work[at] as usize
+}
+
+// The number of the row that a pair gives; the count where there is none.
+pub fn find_row(work: &[u8], bits: usize, sets: usize, count: usize, p: usize, m: usize) -> usize
+    requires { ⌜ Pairs sets (now work) count × (bits ≤ maxProduced + maxTested) × (sets ≤ maxSets) × (p < maxProduced) × (m < 2 ^ sets) × (successorsPart ≤ length (now work)) ⌝ }
+    ensures { λ r. ⌜ r ≡ position sameTree (stateOf bits sets (take heldPart (now (work .entry))) p m) (rowStates bits sets (now (work .entry)) count) ⌝ }
+{
+    let mut i = 0;
+    while i < count {
+        let at = HELD_PART + i * HELD_WIDTH;
+        if same_row(work, bits, sets, p, m, byte(work, at), byte(work, at + 1)) {
+            return i;
+        }
+        i += 1;
+    }
+    count
+}
