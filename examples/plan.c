@@ -1,4 +1,5 @@
-/* A planner's use of order tables: build the table of a query once, then carry one state per plan node.
+/* A planner's use of order tables: build the table of a query once, then carry one state per plan node. Sets stay in force, so they may be taken in
+ * any order.
  * The query is that of examples/first.query: columns a, b, c; orders (a) and (b,a) can be produced, (a,b) and (c) are only looked for;
  * set 0 brings a -> b and set 1 brings b = c. */
 #include <stdio.h>
@@ -46,6 +47,8 @@ int main(void) {
     print_held("after set 0", length, selected);
     uint8_t joined = (uint8_t)order_table_value(order_table_take(output, length, selected, 1));
     print_held("after set 1", length, joined);
+    uint8_t joined_first = (uint8_t)order_table_value(order_table_take(output, length, scan, 1));
+    print_held("set 1, then set 0", length, (uint8_t)order_table_value(order_table_take(output, length, joined_first, 0)));
     uint8_t sorted = (uint8_t)order_table_value(order_table_enter(output, length, 1));
     print_held("sort by (b,a)", length, sorted);
     print_held("after set 1", length, (uint8_t)order_table_value(order_table_take(output, length, sorted, 1)));

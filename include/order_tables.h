@@ -8,6 +8,9 @@
  *
  * Handles are bytes of three kinds: interesting orders (the produced ones first, then the tested ones), sets, and states. One never stands in
  * for another. A state of a table is one of its rows. A plan node carries one state.
+ *
+ * A set that is taken stays in force: what holds is what all sets taken since the entry give together. So a planner may take its sets in any order,
+ * and taking one again changes nothing.
  */
 #ifndef ORDER_TABLES_H
 #define ORDER_TABLES_H
@@ -29,7 +32,7 @@ enum order_table_refusals {
     ORDER_TABLE_REPEAT = 5,    /* a column twice in one order or one dependency */
     ORDER_TABLE_TWIN = 6,      /* two equal interesting orders */
     ORDER_TABLE_ORDERINGS = 7, /* the construction has more than 256 nodes */
-    ORDER_TABLE_STATES = 8,    /* it has more than 128 states, counted before any are merged into one row */
+    ORDER_TABLE_STATES = 8,    /* it has more than 128 states, each its orderings and its sets in force, counted before any share a row */
     ORDER_TABLE_SPACE = 9,     /* scratch below ORDER_TABLE_SCRATCH bytes, or output or text too short */
     ORDER_TABLE_HANDLE = 10,   /* state, produced order, set or interesting order not in the table */
     ORDER_TABLE_ROW = 11,      /* a start or successor that is no state of the table, or a held bit past the interesting orders */
@@ -66,7 +69,9 @@ uint64_t order_query_dependency(const uint8_t *query, size_t query_length, uint8
 
 /* Builds the table of a query into the output's first bytes. Value: the table's length. Refusals: 1 to 9.
  * It is the smallest table: two states of the construction share a row exactly when no order lookup after any run of sets tells them apart, and
- * order_table_verify accepts no table with fewer rows. Refusal 8 counts the states before they are merged; 9 for output goes by the table written.
+ * order_table_verify accepts no table with fewer rows. Refusal 8 counts the states before they are merged. A state is its orderings and its sets in
+ * force, so every choice of the sets is one: at most seven sets can be built, and then with one produced order alone. 9 for output goes by the table
+ * written.
  * On refusal the output keeps its bytes, and those past the table always keep theirs. Refusals 1 to 6, and 9 for scratch, leave the scratch as it
  * is. Afterwards its first ORDER_TABLE_SCRATCH bytes are 0 in every other case; those past them keep theirs. */
 uint32_t order_table_build(const uint8_t *query, size_t query_length, uint8_t *scratch, size_t scratch_length, uint8_t *output,
@@ -96,7 +101,8 @@ uint32_t order_table_verify(const uint8_t *query, size_t query_length, const uin
 /* The state that a produced order starts in. Refusals: 1, 2, 10, 11. */
 uint32_t order_table_enter(const uint8_t *table, size_t table_length, uint8_t produced);
 
-/* The state that taking a set in a state leads to. Refusals: 1, 2, 10, 11. */
+/* The state that taking a set in a state leads to. The set stays in force: in a table that was built, the same sets lead to the same state in any
+ * order and however often each is taken. Refusals: 1, 2, 10, 11. */
 uint32_t order_table_take(const uint8_t *table, size_t table_length, uint8_t state, uint8_t set);
 
 /* Whether a state holds an interesting order: 1 held, 0 not held. Refusals: 1, 2, 10. */

@@ -6,8 +6,8 @@
 //!
 //! Columns that an equal joins stand for one another, so the smallest of them
 //! takes their place. The dependencies are tried in turn until none applies.
-//! This is not the answer of a table: it remembers sets, and what it finds
-//! depends on the sequence in which it tries the dependencies.
+//! This is not the answer of a table: what it finds depends on the sequence in
+//! which it tries the dependencies, and so on that in which sets are taken.
 
 use reference::query::{column_set, ColumnSet, Order};
 use reference::{Query, Rule};
@@ -39,7 +39,7 @@ impl PlanNode {
 
     /// Takes a set: its dependencies join those of the node.
     pub fn take(&mut self, query: &Query, set: u8) {
-        for dependency in query.dependencies_of(set) {
+        for dependency in query.dependencies_of(&[set]) {
             match &dependency.rule {
                 Rule::Fix { left, right } => self.fixes.push(Fix {
                     left: column_set(left),

@@ -112,33 +112,40 @@ impl Slowest {
     }
 }
 
-/// All sizes up to their limits, but few columns, of which most orders are nodes.
+/// The most states that are not refused.
+const MOST_STATES: usize = 128;
+/// The most sets of a query that can be built.
+const MOST_SETS: u8 = 7;
+
+/// One start and few columns, of which most orders are nodes.
 const FEW_COLUMNS: Shape = Shape {
     columns: (1, 7),
-    ..Shape::FULL
+    ..Shape::ONE_START
 };
 
-/// The largest sizes, but for the dependencies.
+/// The largest sizes, but for the sets and the dependencies.
 const LARGE: Shape = Shape {
+    sets: Shape::FEW_SETS.sets,
     dependencies: (2, 16),
     ..Shape::LARGEST
 };
 
 /// A random query that may be slow to build.
 fn large_query(random: &mut Random) -> Query {
-    match random.below(4) {
-        0 => samples::query(random, Shape::FULL),
-        1 => samples::query(random, FEW_COLUMNS),
-        2 => query_of_many_states(random),
+    match random.below(5) {
+        0 => samples::query(random, Shape::FEW_SETS),
+        1 => samples::query(random, Shape::ONE_START),
+        2 => samples::query(random, FEW_COLUMNS),
+        3 => query_of_many_states(random),
         _ => samples::query(random, LARGE),
     }
 }
 
-/// Changes one order or one dependency. The query may be refused afterwards.
+/// Changes one order or one dependency, and then has as many sets as its produced
+/// orders leave room for. The query may be refused afterwards.
 fn change(random: &mut Random, query: &mut Query) {
     let columns = random.between((4, 12)) as u8;
     query.columns = 12;
-    query.sets = 8;
     match random.below(8) {
         0 => {
             let order = some_columns(random, columns, (0, 4));
@@ -153,12 +160,17 @@ fn change(random: &mut Random, query: &mut Query) {
         4 if !query.dependencies.is_empty() => remove(random, &mut query.dependencies),
         5 if !query.dependencies.is_empty() => {
             let place = random.below(query.dependencies.len());
-            query.dependencies[place].set = random.below(8) as u8;
+            query.dependencies[place].set = random.below(MOST_SETS.into()) as u8;
         }
         _ => {
-            let dependency = dependency(random, columns, 8);
+            let dependency = dependency(random, columns, MOST_SETS);
             put(random, &mut query.dependencies, 16, dependency);
         }
+    }
+    // Every choice of sets from every start may be a state.
+    query.sets = (MOST_STATES / query.produced.len()).ilog2() as u8;
+    for dependency in &mut query.dependencies {
+        dependency.set %= query.sets;
     }
 }
 

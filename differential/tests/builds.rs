@@ -10,10 +10,12 @@ use differential::{codes, proved, rounds, Library, SCRATCH_LENGTHS};
 use order_tables::{LISTING_BYTES, LONGEST_TABLE, SCRATCH_BYTES};
 use reference::builder::build_table;
 use reference::construction::{Construction, Limits};
-use reference::lookups::{model_answers, table_answers, Answer};
+use reference::lookups::{model_answers, table_answers, Answer, Lookup};
 use reference::merging::merged;
 use reference::random::Random;
-use reference::samples::{self, constants_among_produced, own_column_per_set, Shape};
+use reference::samples::{
+    self, chain_of_equals, constants_among_produced, joined_starts, own_column_per_set, Shape,
+};
 use reference::table::Table;
 use reference::verification::two_alike;
 use reference::{buffers, listing, trials, Implementation, Query};
@@ -215,12 +217,22 @@ fn states_up_to_128_and_past_them() {
     for sets in 0..=8 {
         let mut query = own_column_per_set(sets);
         comparison.compare(&query.write(), some_lengths);
-        // One start more: 129 states with 7 sets.
+        // Each choice of the sets is a state whether it has a row or not.
+        query.tested.clear();
+        comparison.compare(&query.write(), some_lengths);
+        query.dependencies.clear();
+        comparison.compare(&query.write(), some_lengths);
+        // One start more: 256 states with 7 sets.
         query.produced.push(vec![]);
         comparison.compare(&query.write(), some_lengths);
+        // One state more than choices of sets: 129 with 7 sets.
+        comparison.compare(&joined_starts(sets).write(), some_lengths);
+    }
+    for sets in 1..=8 {
+        comparison.compare(&chain_of_equals(sets).write(), some_lengths);
     }
     comparison.report("states up to 128 and past them");
-    assert_eq!(comparison.queries.with(8), 3);
+    assert_eq!(comparison.queries.with(8), 8);
 }
 
 #[test]
@@ -301,6 +313,55 @@ fn lists_of_lookups_on_built_tables() {
              {held} held, {not_held} not held, {refused} refused"
         );
         assert!(answers.iter().all(|&count| count > 5000));
+    }
+}
+
+/// The lookups that enter by a produced order, take some sets in turn and ask for
+/// every interesting order.
+fn asks_after(query: &Query, produced: u8, sets: &[u8]) -> Vec<Lookup> {
+    let mut lookups = vec![Lookup::Enter(produced)];
+    lookups.extend(sets.iter().copied().map(Lookup::Take));
+    lookups.extend((0..query.interesting().count() as u8).map(Lookup::Ask));
+    lookups
+}
+
+#[test]
+fn the_same_sets_in_any_order_and_however_often() {
+    for round in 0..rounds() {
+        let mut random = Random::new(1000 * round + 11);
+        let (mut sequences, mut held, mut not_held) = (0, 0, 0);
+        for (shape, count) in [(Shape::SMALL, 2000), (Shape::MIDDLE, 200)] {
+            for _ in 0..count {
+                let (query, _) = samples::query_with_table(&mut random, shape);
+                let mut output = [0; LONGEST_TABLE];
+                let length = Library::build(&query.write(), &mut [0; SCRATCH_BYTES], &mut output);
+                let table = &output[..length.expect("the query has a table")];
+                let produced = random.below(query.produced.len()) as u8;
+                let sets: Vec<u8> = (0..query.sets).filter(|_| !random.one_in(4)).collect();
+                let row = Library::follow(table, produced, &sets);
+                let answers = model_answers(&query, &asks_after(&query, produced, &sets));
+                let answers = &answers[1 + sets.len()..];
+                held += answers.iter().filter(|&&a| a == Answer::Held(true)).count();
+                not_held += answers
+                    .iter()
+                    .filter(|&&a| a == Answer::Held(false))
+                    .count();
+                for _ in 0..4 {
+                    let rearranged = samples::rearranged(&mut random, &sets);
+                    let case = format!("{sets:?} {rearranged:?} on the table of {query:?}");
+                    let lookups = asks_after(&query, produced, &rearranged);
+                    let given = table_answers::<Library>(table, &lookups);
+                    assert!(given.ends_with(answers), "{case}");
+                    let other = Library::follow(table, produced, &rearranged);
+                    assert_eq!(other, row, "{case}");
+                    sequences += usize::from(rearranged != sets);
+                }
+            }
+        }
+        println!(
+            "the same sets in {sequences} other sequences: {held} orders held, {not_held} not held"
+        );
+        assert!(sequences > 3000 && held > 2000 && not_held > 2000);
     }
 }
 

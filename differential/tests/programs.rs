@@ -13,7 +13,7 @@ use reference::program::{self, Written};
 use reference::random::Random;
 use reference::samples::{self, Kind, Shape};
 use reference::table::Table;
-use reference::{trials, verification, Implementation, Reference};
+use reference::{trials, verification, Implementation, Query, Reference};
 
 /// A folder of this name for the files of one test, empty at first.
 fn folder(name: &str) -> PathBuf {
@@ -125,23 +125,42 @@ fn files_that_are_empty_or_longer_than_a_query_or_a_table() {
         assert_eq!(compare(&folder, query, &resized(&[0], length)), Err(2));
     }
 
-    let (query, mut table) = largest();
-    let bytes = table.write();
-    assert_eq!(bytes.len(), 1292);
-    assert_eq!(compare(&folder, &query, &bytes), Ok(()));
-    assert_eq!(compare(&folder, &query, &resized(&bytes, 1293)), Err(1));
-    table.states[127].held ^= 1 << 15;
-    assert_eq!(compare(&folder, &query, &table.write()), Err(13));
+    // The longest tables that are right: of the most sets, and of the most orders.
+    for (query, length) in [
+        (samples::own_column_per_set(7), 1157),
+        (samples::most_orders(), 780),
+    ] {
+        let (query, mut table) = with_the_most_states(&query);
+        let bytes = table.write();
+        assert_eq!(bytes.len(), length);
+        assert_eq!(compare(&folder, &query, &bytes), Ok(()));
+        assert_eq!(
+            compare(&folder, &query, &resized(&bytes, length + 1)),
+            Err(1)
+        );
+        table.states[127].held ^= 1 << (table.interesting() - 1);
+        assert_eq!(compare(&folder, &query, &table.write()), Err(13));
+    }
+
+    // The longest table there is has eight sets, and no query of eight is built.
+    let mut longest = vec![128, 8, 8, 8];
+    longest.resize(1292, 0);
+    let eight_sets = trials::named("eight_sets").query;
+    assert_eq!(compare(&folder, query, &longest), Err(12));
+    assert_eq!(compare(&folder, query, &resized(&longest, 1293)), Err(1));
+    assert_eq!(compare(&folder, &eight_sets, &longest), Err(8));
 }
 
-/// A query of the most orders and sets, and a right table for it of the most
-/// states. The last one is a start.
-fn largest() -> (Vec<u8>, Table) {
-    let query = samples::most_orders().write();
+/// A query, and a right table for it of the most states. The last one is reached.
+fn with_the_most_states(query: &Query) -> (Vec<u8>, Table) {
+    let query = query.write();
     let mut table = table_of(&query).expect("the query has a table");
-    let start = table.states[usize::from(table.starts[7])].clone();
-    table.states.resize(128, start);
-    table.starts[7] = 127;
+    if table.states.len() < 128 {
+        let start = table.starts.last_mut().expect("a table has a start");
+        let copy = table.states[usize::from(*start)].clone();
+        *start = 127;
+        table.states.resize(128, copy);
+    }
     (query, table)
 }
 

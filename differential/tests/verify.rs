@@ -154,7 +154,7 @@ fn tables_of_every_kind_for_large_queries() {
         let mut queries = 0;
         while queries < 200 {
             let query = match comparison.random.below(2) {
-                0 => samples::query(&mut comparison.random, Shape::FULL),
+                0 => samples::query(&mut comparison.random, Shape::FEW_SETS),
                 _ => samples::query_of_many_states(&mut comparison.random),
             };
             // Uncut derivation takes too long here, so the own table answers.
@@ -254,8 +254,8 @@ fn every_byte_of_the_example_changed() {
 fn table_sizes_at_and_past_their_limits() {
     let mut comparison = Comparison::new(7);
     for sizes in samples::choices(samples::TABLE_EDGES) {
-        // A query whose own table has these P, T and S where they are within
-        // their limits.
+        // A query of these P, T and S where they are within their limits. With
+        // eight sets, or with seven and eight starts, it has no table.
         let [_, produced, tested, sets] = sizes;
         let query = Query {
             columns: 12,
@@ -274,7 +274,7 @@ fn table_sizes_at_and_past_their_limits() {
         }
     }
     comparison.report("table sizes at and past their limits");
-    assert!([1, 2, 9, 11, 13]
+    assert!([1, 2, 8, 9, 11, 13]
         .iter()
         .all(|&refusal| comparison.verified.with(refusal) > 10));
 }

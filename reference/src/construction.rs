@@ -1,5 +1,9 @@
 //! The construction: nodes and numbered states, every ordering cut to its
 //! kept part.
+//!
+//! States are found by a walk. A start has its produced order's orderings and no
+//! set in force. Taking a set puts it in force and closes the orderings that the
+//! state has under all its sets in force.
 
 use std::collections::{BTreeMap, BTreeSet, HashMap, HashSet};
 
@@ -24,7 +28,8 @@ impl Limits {
         states: 128,
     };
     /// Wider limits, for counting past those of the refusal list: more nodes
-    /// than orders of twelve columns, and states enough for small queries.
+    /// than orders of twelve columns, and more states than there are choices of
+    /// eight sets from eight starts.
     pub const COUNTING: Self = Self {
         nodes: 16_384,
         states: 4_096,
@@ -87,13 +92,23 @@ fn wanted_columns(query: &Query) -> ColumnSet {
     }
 }
 
+/// A state before merging. States are equal when both their orderings and their
+/// sets in force are.
+#[derive(Clone, Debug, PartialEq, Eq, Hash)]
+pub struct State {
+    /// Its orderings, by their places among the nodes.
+    pub orderings: NodeSet,
+    /// Its sets in force, bit i for set i.
+    pub in_force: u8,
+}
+
 /// The nodes and the numbered states of a query.
 #[derive(Clone, Debug, PartialEq, Eq)]
 pub struct Construction {
-    /// All nodes. Their places here are the members of the states.
+    /// All nodes. Their places here are the members of the states' orderings.
     pub nodes: Vec<Ordering>,
-    /// The states in number order, each a set of nodes.
-    pub states: Vec<NodeSet>,
+    /// The states in number order.
+    pub states: Vec<State>,
     /// Per produced order, the number of its start.
     pub starts: Vec<usize>,
     /// Per state and set, the number of the state that taking the set leads to.
@@ -117,7 +132,7 @@ impl Construction {
         let steps_by_set: Vec<Vec<Vec<usize>>> = (0..query.sets)
             .map(|set| {
                 let kept_steps = |node: &Ordering| {
-                    let results = steps(node, query.dependencies_of(set));
+                    let results = steps(node, query.dependencies_of(&[set]));
                     let kept = results.iter().map(|result| keep.kept_part(result));
                     kept.map(|result| places[&result]).collect()
                 };
@@ -130,22 +145,26 @@ impl Construction {
         for order in &query.produced {
             let orderings = start(order);
             let members = orderings.iter().map(|ordering| places[ordering]);
-            starts.push(numbering.number(NodeSet::of(nodes.len(), members))?);
+            starts.push(numbering.number(State {
+                orderings: NodeSet::of(nodes.len(), members),
+                in_force: 0,
+            })?);
         }
         let mut successors = Vec::new();
         while let Some(state) = numbering.states.get(successors.len()).cloned() {
-            let row = steps_by_set
-                .iter()
-                .map(|steps_of_set| numbering.number(take(&state, steps_of_set)))
+            let row = (0..steps_by_set.len())
+                .map(|set| numbering.number(take(&state, set, &steps_by_set)))
                 .collect::<Result<Vec<usize>, u8>>()?;
             successors.push(row);
         }
 
-        let held_in = |state: &NodeSet| {
+        let held_in = |State { orderings, .. }: &State| {
+            let has =
+                |order: &Ordering| places.get(order).is_some_and(|&at| orderings.contains(at));
             query
                 .interesting()
                 .enumerate()
-                .filter(|(_, order)| places.get(order).is_some_and(|&node| state.contains(node)))
+                .filter(|(_, order)| has(order))
                 .fold(0, |bits, (number, _)| bits | 1 << number)
         };
         let held = numbering.states.iter().map(held_in).collect();
@@ -158,17 +177,18 @@ impl Construction {
         })
     }
 
-    /// The orderings that are the nodes of one state.
+    /// The orderings of one state.
     pub fn orderings_of(&self, state: usize) -> HashSet<Ordering> {
         self.states[state]
+            .orderings
             .iter()
             .map(|node| self.nodes[node].clone())
             .collect()
     }
 }
 
-/// All orderings reached from any start by any sets. Sets can be taken in any
-/// sequence and again, so these are the kept steps under all dependencies
+/// All orderings reached from any start by any sets. Those reached by some sets
+/// are reached by all of them, so these are the kept steps under all dependencies
 /// together, repeated until nothing is added. Gives 7 past the limit.
 fn find_nodes(query: &Query, keep: Keep, limit: usize) -> Result<Vec<Ordering>, u8> {
     let mut nodes: BTreeSet<Ordering> = query
@@ -191,13 +211,20 @@ fn find_nodes(query: &Query, keep: Keep, limit: usize) -> Result<Vec<Ordering>, 
     Ok(nodes.into_iter().collect())
 }
 
-/// Taking a set: adds all that its steps give, repeated until nothing is added.
-fn take(state: &NodeSet, steps_of_set: &[Vec<usize>]) -> NodeSet {
+/// Taking a set: puts it in force and adds all that steps under the sets in force
+/// give, repeated until nothing is added.
+fn take(state: &State, set: usize, steps_by_set: &[Vec<Vec<usize>>]) -> State {
     let mut taken = state.clone();
-    let mut waiting: Vec<usize> = state.iter().collect();
+    taken.in_force |= 1 << set;
+    let steps_in_force: Vec<&Vec<Vec<usize>>> = (0..)
+        .zip(steps_by_set)
+        .filter(|(set, _)| taken.in_force >> set & 1 == 1)
+        .map(|(_, steps_of_set)| steps_of_set)
+        .collect();
+    let mut waiting: Vec<usize> = state.orderings.iter().collect();
     while let Some(node) = waiting.pop() {
-        for &result in &steps_of_set[node] {
-            if taken.insert(result) {
+        for &result in steps_in_force.iter().flat_map(|steps| &steps[node]) {
+            if taken.orderings.insert(result) {
                 waiting.push(result);
             }
         }
@@ -207,8 +234,8 @@ fn take(state: &NodeSet, steps_of_set: &[Vec<usize>]) -> NodeSet {
 
 /// The states numbered so far.
 struct Numbering {
-    states: Vec<NodeSet>,
-    numbers: HashMap<NodeSet, usize>,
+    states: Vec<State>,
+    numbers: HashMap<State, usize>,
     limit: usize,
 }
 
@@ -223,7 +250,7 @@ impl Numbering {
 
     /// The number of a state: the one it has, or the next free one. Gives 8
     /// when that makes more states than the limit.
-    fn number(&mut self, state: NodeSet) -> Result<usize, u8> {
+    fn number(&mut self, state: State) -> Result<usize, u8> {
         if let Some(&number) = self.numbers.get(&state) {
             return Ok(number);
         }

@@ -2,8 +2,8 @@
 //!
 //! It follows document 01 in the plainest way that still runs quickly, so that
 //! another implementation can be compared with it: orderings are lists of
-//! columns kept in hash sets, a state is a bit set of nodes, and nothing is
-//! shared with any other implementation.
+//! columns kept in hash sets, a state is a bit set of nodes with the sets in
+//! force, and nothing is shared with any other implementation.
 //!
 //! The way from a query to an answer is: [`query`] reads the description,
 //! [`construction`] finds nodes and states with the steps of [`derivation`],

@@ -1,5 +1,6 @@
-//! The plain model of lists of lookups. It knows the query and derives uncut;
-//! it sees neither a table nor state numbers.
+//! The plain model of lists of lookups. It knows the query and derives uncut, each
+//! time from the start and under all sets taken; it sees neither a table nor state
+//! numbers.
 
 use std::collections::HashSet;
 
@@ -37,13 +38,16 @@ impl<'q> Model<'q> {
         Ok(())
     }
 
-    /// A take of a set. Refuses a number of S or more with 10.
+    /// A take of a set. The orderings are then all that steps under the sets taken,
+    /// together, give from the start. Refuses a number of S or more with 10.
     pub fn take(&mut self, set: u8) -> Result<(), u8> {
         if set >= self.query.sets {
             return Err(refusal::HANDLE);
         }
         self.sets.push(set);
-        self.orderings = closure(self.orderings.drain(), self.query.dependencies_of(set));
+        let begun = self.start_order.map(|order| start(order));
+        let in_force = self.query.dependencies_of(&self.sets);
+        self.orderings = closure(begun.unwrap_or_default(), in_force);
         Ok(())
     }
 

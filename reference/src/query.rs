@@ -181,11 +181,14 @@ impl Query {
         self.produced.iter().chain(&self.tested)
     }
 
-    /// The dependencies of one set.
-    pub fn dependencies_of(&self, set: u8) -> impl Iterator<Item = &Dependency> + Clone {
+    /// The dependencies of some sets, together.
+    pub fn dependencies_of<'q>(
+        &'q self,
+        sets: &'q [u8],
+    ) -> impl Iterator<Item = &'q Dependency> + Clone {
         self.dependencies
             .iter()
-            .filter(move |dependency| dependency.set == set)
+            .filter(|dependency| sets.contains(&dependency.set))
     }
 }
 

@@ -15,7 +15,8 @@ pub const REPEAT: u8 = 5;
 pub const TWIN: u8 = 6;
 /// More than 256 nodes.
 pub const ORDERINGS: u8 = 7;
-/// More than 128 states, counted before merging.
+/// More than 128 states, each its orderings and its sets in force, counted before
+/// merging.
 pub const STATES: u8 = 8;
 /// Scratch below 16,384 bytes, or output shorter than the table.
 pub const SPACE: u8 = 9;

@@ -7,7 +7,7 @@ use reference::model::Model;
 use reference::random::Random;
 use reference::rows::{obey, stand_in};
 use reference::samples::{self, Shape};
-use reference::{Dependency, Query, Reference};
+use reference::{Dependency, Implementation, Query, Reference};
 
 #[test]
 fn tables_answer_as_the_plain_model_does() {
@@ -64,6 +64,50 @@ fn every_order_is_asked_after_every_pair_of_takes() {
             "{query:?}"
         );
     }
+}
+
+/// The lookups that enter by a produced order, take some sets in turn and ask for
+/// every interesting order.
+fn asks_after(query: &Query, produced: u8, sets: &[u8]) -> Vec<Lookup> {
+    let mut lookups = vec![Lookup::Enter(produced)];
+    lookups.extend(sets.iter().copied().map(Lookup::Take));
+    lookups.extend((0..query.interesting().count() as u8).map(Lookup::Ask));
+    lookups
+}
+
+#[test]
+fn the_same_sets_in_any_order_and_however_often_give_the_same_answers_and_row() {
+    let mut random = Random::new(78);
+    let (mut otherwise, mut later) = (0, 0);
+    for _ in 0..1000 {
+        let (query, table) = samples::query_with_table(&mut random, Shape::SMALL);
+        let interesting = query.interesting().count();
+        for produced in 0..query.produced.len() as u8 {
+            let sets: Vec<u8> = (0..query.sets).filter(|_| !random.one_in(4)).collect();
+            let answers = model_answers(&query, &asks_after(&query, produced, &sets));
+            let answers = &answers[answers.len() - interesting..];
+            let row = Reference::follow(&table, produced, &sets);
+            let rearranged = samples::rearranged(&mut random, &sets);
+            let case = format!("{sets:?} {rearranged:?} {query:?}");
+
+            let lookups = asks_after(&query, produced, &rearranged);
+            assert!(model_answers(&query, &lookups).ends_with(answers), "{case}");
+            assert!(
+                table_answers::<Reference>(&table, &lookups).ends_with(answers),
+                "{case}"
+            );
+            assert_eq!(
+                Reference::follow(&table, produced, &rearranged),
+                row,
+                "{case}"
+            );
+            otherwise += usize::from(rearranged != sets);
+            let one_less = sets.split_last().map_or(&[][..], |(_, sets)| sets);
+            later += usize::from(Reference::follow(&table, produced, one_less) != row);
+        }
+    }
+    assert!(otherwise > 500, "only {otherwise} sequences differ");
+    assert!(later > 200, "only {later} last sets lead to another row");
 }
 
 #[test]
@@ -159,10 +203,8 @@ fn held_orders_hold_of_rows_that_stand_in_the_start_order_and_obey_the_sets() {
         for _ in 0..4 {
             let rows = samples::rows(&mut random, &query, start_order, model.sets(), 8);
             assert!(stand_in(&rows, start_order));
-            for &set in model.sets() {
-                let mut dependencies = query.dependencies_of(set);
-                assert!(dependencies.all(|dependency| obey(&rows, &dependency.rule)));
-            }
+            let mut dependencies = query.dependencies_of(model.sets());
+            assert!(dependencies.all(|dependency| obey(&rows, &dependency.rule)));
             for (order, answer) in query.interesting().zip(&answers[moves..]) {
                 let true_of_rows = stand_in(&rows, order);
                 match answer {

@@ -1,14 +1,16 @@
-//! What is wanted and kept, and the numbering of states.
+//! What is wanted and kept, what a state is, and the numbering of states.
 
 use std::collections::{HashMap, HashSet};
 
-use reference::builder::build_table;
+use reference::builder::{build_table, table_of};
 use reference::construction::{Construction, Keep, Limits};
 use reference::derivation::{start, Ordering};
 use reference::model::Model;
 use reference::query::column_set;
 use reference::random::Random;
-use reference::samples::{self, constants_among_produced, own_column_per_set, Shape};
+use reference::samples::{
+    self, constants_among_produced, joined_starts, own_column_per_set, Shape,
+};
 use reference::{listing, table, Dependency, Query};
 
 /// Random small queries that are not refused, with their constructions.
@@ -73,7 +75,7 @@ fn with_only_the_empty_order_nothing_is_kept_but_it() {
 }
 
 #[test]
-fn a_state_that_is_a_start_keeps_its_number() {
+fn a_state_is_its_orderings_and_its_sets_in_force() {
     let query = Query {
         columns: 2,
         produced: vec![vec![0], vec![0, 1]],
@@ -81,9 +83,19 @@ fn a_state_that_is_a_start_keeps_its_number() {
         sets: 1,
         dependencies: vec![Dependency::fix(0, &[0], 1)],
     };
+    // After its set, the first start has the orderings of the second one, which
+    // has no set in force. After its set, the second start is that state.
     let construction = Construction::of(&query).expect("within the limits");
     assert_eq!(construction.starts, [0, 1]);
-    assert_eq!(construction.successors, [[1], [1]]);
+    assert_eq!(construction.successors, [[2], [2], [2]]);
+    assert_eq!(construction.orderings_of(1), construction.orderings_of(2));
+    let in_force = construction.states.iter().map(|state| state.in_force);
+    assert_eq!(in_force.collect::<Vec<u8>>(), [0, 0, 1]);
+
+    // No lookup tells them apart, so they share a row.
+    let table = table_of(&query.write()).expect("not refused");
+    let successors = table.states.iter().map(|state| &state.successors);
+    assert_eq!(successors.collect::<Vec<_>>(), [&[1], &[1]]);
 }
 
 /// How many states and nodes a query has, and the refusal of its construction.
@@ -98,7 +110,43 @@ fn states_are_refused_past_128_exactly() {
     let mut query = own_column_per_set(7);
     assert_eq!(counted(&query), (128, 9, None));
     query.produced.push(vec![]);
-    assert_eq!(counted(&query), (129, 9, Some(8)));
+    assert_eq!(counted(&query), (256, 9, Some(8)));
+    assert_eq!(counted(&joined_starts(6)), (65, 3, None));
+    assert_eq!(counted(&joined_starts(7)), (129, 3, Some(8)));
+}
+
+#[test]
+fn every_choice_of_sets_is_a_state_even_of_empty_ones() {
+    for sets in 0..=8 {
+        let query = Query {
+            columns: 1,
+            produced: vec![vec![]],
+            tested: vec![],
+            sets,
+            dependencies: vec![],
+        };
+        let refusal = (sets == 8).then_some(8);
+        assert_eq!(counted(&query), (1 << sets, 1, refusal));
+    }
+}
+
+#[test]
+fn eight_sets_are_refused_with_7_or_8() {
+    let mut random = Random::new(8);
+    let shape = Shape {
+        sets: (8, 8),
+        ..Shape::FULL
+    };
+    let mut refused = [0; 2];
+    for _ in 0..500 {
+        let query = samples::query(&mut random, shape);
+        match Construction::of(&query).err() {
+            Some(7) => refused[0] += 1,
+            Some(8) => refused[1] += 1,
+            refusal => panic!("{refusal:?} {query:?}"),
+        }
+    }
+    assert!(refused.iter().all(|&queries| queries > 50), "{refused:?}");
 }
 
 #[test]
@@ -178,26 +226,57 @@ fn a_state_is_what_is_kept_of_the_uncut_orderings() {
 }
 
 #[test]
-fn a_set_taken_again_directly_after_itself_changes_no_state() {
-    for (_, construction) in constructions(5, 1000) {
-        for row in &construction.successors {
-            for (set, &taken) in row.iter().enumerate() {
-                assert_eq!(construction.successors[taken][set], taken);
+fn a_set_in_force_taken_again_changes_no_state() {
+    for (query, construction) in constructions(5, 1000) {
+        let states = construction.states.iter().zip(&construction.successors);
+        for (number, (state, row)) in states.enumerate() {
+            for set in 0..query.sets {
+                let in_force = state.in_force >> set & 1 == 1;
+                assert_eq!(row[usize::from(set)] == number, in_force, "{query:?}");
             }
         }
     }
 }
 
 #[test]
-fn an_empty_set_changes_no_state() {
+fn the_same_sets_lead_to_one_state_in_any_order_and_however_often() {
+    let mut random = Random::new(9);
+    let mut otherwise = 0;
+    for (query, construction) in constructions(8, 1000) {
+        let follow = |start: usize, sets: &[u8]| {
+            sets.iter().fold(start, |state, &set| {
+                construction.successors[state][usize::from(set)]
+            })
+        };
+        for &start in &construction.starts {
+            let sets: Vec<u8> = (0..query.sets).filter(|_| random.one_in(2)).collect();
+            let state = follow(start, &sets);
+            let in_force = sets.iter().fold(0, |sets, set| sets | 1 << set);
+            assert_eq!(construction.states[state].in_force, in_force, "{query:?}");
+            let rearranged = samples::rearranged(&mut random, &sets);
+            assert_eq!(
+                follow(start, &rearranged),
+                state,
+                "{rearranged:?} {query:?}"
+            );
+            otherwise += usize::from(rearranged != sets);
+        }
+    }
+    assert!(otherwise > 500, "only {otherwise} sequences differ");
+}
+
+#[test]
+fn a_set_taken_again_and_an_empty_set_lead_to_the_same_row() {
     let mut empty_sets = 0;
-    for (query, construction) in constructions(6, 1000) {
+    for (query, _) in constructions(6, 1000) {
+        let table = table_of(&query.write()).expect("not refused");
         for set in 0..query.sets {
-            if query.dependencies_of(set).next().is_none() {
-                empty_sets += 1;
-                for (state, row) in construction.successors.iter().enumerate() {
-                    assert_eq!(row[usize::from(set)], state);
-                }
+            let next = |state: usize| usize::from(table.states[state].successors[usize::from(set)]);
+            let is_empty = query.dependencies_of(&[set]).next().is_none();
+            empty_sets += usize::from(is_empty);
+            for state in 0..table.states.len() {
+                assert_eq!(next(next(state)), next(state), "{query:?}");
+                assert!(!is_empty || next(state) == state, "{query:?}");
             }
         }
     }

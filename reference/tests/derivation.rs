@@ -166,6 +166,33 @@ fn a_closure_without_dependencies_has_the_prefixes() {
 }
 
 #[test]
+fn a_closure_under_rules_together_may_have_more_than_one_after_the_other() {
+    let (a, b, c) = (0, 1, 2);
+    let [one, other] = [Dependency::fix(0, &[b], c), Dependency::fix(1, &[a], b)];
+    let together = closure(start(&[a]), [&one, &other]);
+    let expected = [vec![], vec![a], vec![a, b], vec![a, b, c]];
+    assert_eq!(together, HashSet::from(expected));
+    let one_then_other = closure(closure(start(&[a]), [&one]), [&other]);
+    assert!(!one_then_other.contains(&vec![a, b, c]));
+    let other_then_one = closure(closure(start(&[a]), [&other]), [&one]);
+    assert_eq!(other_then_one, together);
+}
+
+#[test]
+fn a_closure_under_rules_together_is_reached_by_way_of_any_of_them_first() {
+    let dependencies = all_dependencies(3);
+    for one in &dependencies {
+        for other in &dependencies {
+            let begun = start(&[2, 0]);
+            let together = closure(begun.clone(), [one, other]);
+            let first = closure(begun, [one]);
+            assert!(first.is_subset(&together));
+            assert_eq!(closure(first, [one, other]), together);
+        }
+    }
+}
+
+#[test]
 fn constants_alone_give_every_ordering() {
     let constants: Vec<Dependency> = (0..4).map(|c| Dependency::fix(0, &[], c)).collect();
     let expected: HashSet<Ordering> = all_orderings(4).into_iter().collect();

@@ -199,7 +199,7 @@ fn the_benchmarks_have_the_counts() {
     let verified: Vec<_> = rows(verified).map(|row| row[..2].to_vec()).collect();
     let names_and_rows = builds.iter().map(|row| vec![row[0], row[3]]);
     assert_eq!(verified, names_and_rows.collect::<Vec<_>>());
-    let trial = trials::named("tpcr_query_8");
+    let trial = trials::named("six_joins");
     let [nodes, _, rows_written] = counts(&trial);
     let length = trial.table_length.expect("the length is said").to_string();
     let last = rows(section(&benchmarks, "Document 000, section 6.2")).last();

@@ -441,6 +441,26 @@ fn nodes_are_refused_before_states_and_states_before_output() {
 }
 
 #[test]
+fn eight_sets_give_8_unless_an_earlier_check_refuses() {
+    let with_sets = |query: &[u8], sets: u8| {
+        let mut query = Query::read(query).expect("not refused");
+        query.sets = sets;
+        query.write()
+    };
+    for (name, refused_before) in [("constant", None), ("seven_constants", Some(7))] {
+        let query = trials::named(name).query;
+        for (sets, refused) in [(7, None), (8, Some(8))] {
+            let query = with_sets(&query, sets);
+            let built = build_with(&query, SCRATCH_BYTES, 2048).err();
+            assert_eq!(built, refused_before.or(refused), "{name}, {sets} sets");
+            assert_eq!(build_with(&query, SCRATCH_BYTES - 1, 2048), Err(9));
+        }
+    }
+    let nine_sets = with_sets(&EXAMPLE, 9);
+    assert_eq!(refusal(&nine_sets), Some(2));
+}
+
+#[test]
 fn output_shorter_than_the_table_gives_9() {
     let trial = trials::example();
     let length = trial.table.len();
@@ -575,7 +595,7 @@ fn random_queries_of_all_sizes_read_back_and_build() {
         let built = build_with(&bytes, SCRATCH_BYTES, 2048);
         outcomes[usize::from(built.err().unwrap_or(0))] += 1;
     }
-    let enough = outcomes[0] > 500 && outcomes[7] > 100 && outcomes[8] > 5;
+    let enough = outcomes[0] > 500 && outcomes[7] > 100 && outcomes[8] > 100;
     assert!(enough, "{outcomes:?}");
 }
 

@@ -8,7 +8,7 @@ use reference::trials::{self, Trial};
 use reference::{Dependency, Query, Reference};
 
 /// How many trials there are at least.
-const TRIALS: usize = 37;
+const TRIALS: usize = 39;
 
 #[test]
 fn every_trial() {

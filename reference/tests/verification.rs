@@ -1,11 +1,8 @@
 //! A supplier's table on trial. Beside the trial stands the plain model, which is
 //! put to every run of sets that may be needed.
 
-use std::collections::{BTreeSet, HashSet};
-
 use reference::buffers::SCRATCH_BYTES;
 use reference::builder::table_of;
-use reference::derivation::Ordering;
 use reference::model::Model;
 use reference::random::Random;
 use reference::samples::{self, most_orders, own_column_per_set, Kind, Shape, Supplied};
@@ -23,60 +20,65 @@ const TINY: Shape = Shape {
 };
 
 /// The most runs of one length that are put to a table.
-const MOST_RUNS: usize = 2048;
+const MOST_RUNS: usize = 8192;
 
 fn verify(query: &Query, table: &[u8]) -> Result<(), u8> {
     Reference::verify(&query.write(), table, &mut [7; SCRATCH_BYTES])
 }
 
-/// The plain model after an entry by each produced order.
-fn starts(query: &Query) -> impl Iterator<Item = (u8, Model<'_>)> {
-    (0..query.produced.len() as u8).map(|produced| {
-        let mut model = Model::new(query);
-        model.enter(produced).expect("a produced order");
-        (produced, model)
-    })
-}
-
-/// The plain model after one set more.
-fn taken<'q>(model: &Model<'q>, set: u8) -> Model<'q> {
-    let mut model = model.clone();
-    model.take(set).expect("a set");
-    model
-}
-
-/// How many sets of orderings the plain model reaches.
-fn uncut_states(query: &Query) -> usize {
-    let mut seen: HashSet<BTreeSet<Ordering>> = HashSet::new();
-    let mut waiting: Vec<Model> = starts(query).map(|(_, model)| model).collect();
-    while let Some(model) = waiting.pop() {
-        if seen.insert(model.orderings().iter().cloned().collect()) {
-            waiting.extend((0..query.sets).map(|set| taken(&model, set)));
-        }
+/// What the plain model answers of each interesting order, by the produced order
+/// entered by and the choice of sets taken, bit i for set i.
+fn model_answers(query: &Query) -> Vec<Vec<Vec<Result<bool, u8>>>> {
+    let orders = 0..query.interesting().count() as u8;
+    let mut answers = Vec::new();
+    for produced in 0..query.produced.len() as u8 {
+        let of_choice = |choice: usize| {
+            let mut model = Model::new(query);
+            model.enter(produced).expect("a produced order");
+            for set in (0..query.sets).filter(|set| choice >> set & 1 == 1) {
+                model.take(set).expect("a set");
+            }
+            orders.clone().map(|order| model.ask(order)).collect()
+        };
+        answers.push((0..1 << query.sets).map(of_choice).collect());
     }
-    seen.len()
+    answers
+}
+
+/// A run of sets: the produced order entered by, the choice of sets taken, bit i
+/// for set i, and the state of the table that it leads to.
+struct Run {
+    produced: u8,
+    choice: usize,
+    state: u8,
 }
 
 /// The length of the shortest run of sets after which a table answers otherwise
 /// than the plain model, if one of at most so many sets does.
 fn shortest_wrong_run(query: &Query, table: &[u8], most: usize) -> Option<usize> {
-    let orders = query.interesting().count() as u8;
-    let answers_alike = |(model, state): &(Model, u8)| {
-        (0..orders).all(|order| Reference::ask(table, *state, order) == model.ask(order))
+    let model_answers = model_answers(query);
+    let answers_alike = |run: &Run| {
+        let expected = &model_answers[usize::from(run.produced)][run.choice];
+        let given = (0..).map(|order| Reference::ask(table, run.state, order));
+        given
+            .zip(expected)
+            .all(|(given, expected)| given == *expected)
     };
-    let entered = starts(query).map(|(produced, model)| {
-        let state = Reference::enter(table, produced).expect("a produced order");
-        (model, state)
+    let entered = (0..query.produced.len() as u8).map(|produced| Run {
+        produced,
+        choice: 0,
+        state: Reference::enter(table, produced).expect("a produced order"),
     });
-    let mut runs: Vec<(Model, u8)> = entered.collect();
+    let mut runs: Vec<Run> = entered.collect();
     for length in 0..=most {
         if !runs.iter().all(answers_alike) {
             return Some(length);
         }
-        let longer = runs.iter().flat_map(|(model, state)| {
-            (0..query.sets).map(move |set| {
-                let next = Reference::take(table, *state, set).expect("a set");
-                (taken(model, set), next)
+        let longer = runs.iter().flat_map(|run| {
+            (0..query.sets).map(|set| Run {
+                produced: run.produced,
+                choice: run.choice | 1 << set,
+                state: Reference::take(table, run.state, set).expect("a set"),
             })
         });
         runs = longer.collect();
@@ -86,9 +88,9 @@ fn shortest_wrong_run(query: &Query, table: &[u8], most: usize) -> Option<usize>
 
 /// How long a run must be at most to tell a table from the plain model: their
 /// states are told apart by runs that are shorter by two than there are states
-/// in both.
+/// in both. The model has at most one for each choice of sets from each start.
 fn telling_length(query: &Query, table: &Table) -> usize {
-    uncut_states(query) + table.states.len() - 2
+    (query.produced.len() << query.sets) + table.states.len() - 2
 }
 
 #[test]

@@ -1,7 +1,8 @@
 //! A planner's use of order tables: build the table of a query once, then carry
-//! one state per plan node. The query is that of examples/first.query: columns a,
-//! b, c; orders (a) and (b,a) can be produced, (a,b) and (c) are only looked for;
-//! set 0 brings a -> b and set 1 brings b = c.
+//! one state per plan node. Sets stay in force, so they may be taken in any order.
+//! The query is that of examples/first.query: columns a, b, c; orders (a) and (b,a)
+//! can be produced, (a,b) and (c) are only looked for; set 0 brings a -> b and set 1
+//! brings b = c.
 
 use order_tables::{build, OrderHandle, Refusal, SetHandle, StateNumber, Table};
 
@@ -33,6 +34,9 @@ fn main() -> Result<(), Refusal> {
     print_held("after set 0", table, selected)?;
     let joined = table.take(selected, SetHandle(1))?;
     print_held("after set 1", table, joined)?;
+    let joined_first = table.take(scan, SetHandle(1))?;
+    let selected_then = table.take(joined_first, SetHandle(0))?;
+    print_held("set 1, then set 0", table, selected_then)?;
     let sorted = table.enter(OrderHandle(1))?;
     print_held("sort by (b,a)", table, sorted)?;
     print_held("after set 1", table, table.take(sorted, SetHandle(1))?)?;

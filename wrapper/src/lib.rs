@@ -3,6 +3,10 @@
 //! library; here its numbers become types, so that a set can't be passed as a
 //! state.
 //!
+//! A set that is taken stays in force: what holds is what all sets taken since the
+//! entry give together. So a planner may take its sets in any order, and taking one
+//! again changes nothing.
+//!
 //! ```no_run
 //! # fn plan(query: &[u8]) -> Result<bool, order_tables::Refusal> {
 //! use order_tables::{build, OrderHandle, SetHandle, Table};
@@ -51,7 +55,9 @@ pub struct StateNumber(pub u8);
 /// exactly when no order lookup after any run of sets tells them apart, and
 /// [`verify`] accepts no table with fewer rows.
 ///
-/// [`Refusal::States`] counts the states before they are merged, and
+/// [`Refusal::States`] counts the states before they are merged. A state is its
+/// orderings and its sets in force, so every choice of the sets is one: at most
+/// seven sets can be built, and then with one produced order alone.
 /// [`Refusal::Space`] for output goes by the table written. On refusal the output
 /// keeps its bytes, and those past the table always keep theirs. Once the checks 1
 /// to 6 and the scratch length have passed, the scratch's first [`SCRATCH_BYTES`]
@@ -112,7 +118,9 @@ impl<'a> Table<'a> {
         value(raw::table_enter(self.bytes, produced.0)).map(state)
     }
 
-    /// The state that taking a set leads to.
+    /// The state that taking a set leads to. The set stays in force: in a table that
+    /// was built, the same sets lead to the same state in any order and however
+    /// often each is taken.
     pub fn take(self, from: StateNumber, set: SetHandle) -> Result<StateNumber, Refusal> {
         value(raw::table_take(self.bytes, from.0, set.0)).map(state)
     }

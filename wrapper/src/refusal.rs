@@ -20,8 +20,8 @@ pub enum Refusal {
     Twin,
     /// The construction has more than 256 nodes.
     Orderings,
-    /// The construction has more than 128 states, counted before any are merged
-    /// into one row.
+    /// The construction has more than 128 states, each its orderings and its sets
+    /// in force, counted before any are merged into one row.
     States,
     /// Scratch below 16,384 bytes, or output or text too short.
     Space,

@@ -35,6 +35,24 @@ fn builds_and_looks_up() {
 }
 
 #[test]
+fn takes_sets_in_any_order_and_again() {
+    let example = trials::example();
+    let table = Table::new(&example.table);
+    for produced in [OrderHandle(0), OrderHandle(1)] {
+        let follow = |sets: &[u8]| {
+            let start = table.enter(produced)?;
+            let mut sets = sets.iter().copied().map(SetHandle);
+            sets.try_fold(start, |state, set| table.take(state, set))
+        };
+        let both = follow(&[0, 1]);
+        assert!(both.is_ok());
+        for sets in [&[1, 0][..], &[0, 1, 0], &[1, 1, 0, 0, 1]] {
+            assert_eq!(follow(sets), both, "{produced:?} {sets:?}");
+        }
+    }
+}
+
+#[test]
 fn verifies() {
     let mut tried = [0; 3];
     for trial in trials::all() {

@@ -19,32 +19,29 @@ use reference::{trials, Implementation, Query, Reference};
 /// How often two ways to look up take turns: long enough that other work of the
 /// machine passes.
 const TURNS: usize = 5000;
-/// How often builds and trials of a table take turns, and how often those of the
-/// slowest build do.
+/// How often builds and trials of a table take turns.
 const BUILD_TURNS: usize = 500;
-const SLOW_BUILD_TURNS: usize = 20;
 /// Lookups per turn.
 const LOOKUPS: usize = 4096;
 /// The queries whose tables are looked up: few, some and the most rows.
-const LOOKED_UP: [&str; 3] = ["listing_example", "tpcr_query_8", "seven_sets"];
+const LOOKED_UP: [&str; 3] = ["listing_example", "six_joins", "seven_sets"];
 /// The queries that are asked by reduction too. In the last two a table and a
-/// reduction differ.
+/// reduction differ often.
 const REDUCED: [&str; 5] = [
     "listing_example",
-    "tpcr_query_8",
+    "six_joins",
     "seven_sets",
     "reduction_not_confluent",
-    "set_not_remembered",
+    "set_remembered",
 ];
-/// The queries that are built, and whose tables are put on trial, from the
-/// smallest to the slowest.
-const BUILT: [&str; 6] = [
+/// The queries that are built, and whose tables are put on trial: small ones,
+/// middle ones of the most states and of many nodes, and one of the most rows.
+const BUILT: [&str; 5] = [
     "constant",
     "listing_example",
-    "tpcr_query_8",
+    "six_joins",
     "six_constants",
     "seven_sets",
-    "slowest_build",
 ];
 
 fn main() {
@@ -203,7 +200,7 @@ fn builds() {
     for name in BUILT {
         let query = trials::named(name).query;
         let (construction, table) = constructed(&query).expect("the trial's query has a table");
-        let [proved, second] = Builds::new().both_times(turns(name), &query);
+        let [proved, second] = Builds::new().both_times(BUILD_TURNS, &query);
         rows.push([
             name.to_owned(),
             construction.nodes.len().to_string(),
@@ -214,7 +211,10 @@ fn builds() {
             number(proved / second),
         ]);
     }
-    println!("States are those of the construction, before merging; rows are those of the table.");
+    println!(
+        "States are those of the construction, each its orderings and its sets in force, before merging; \
+         rows are those of the table."
+    );
     println!();
     report::table(
         [
@@ -222,14 +222,6 @@ fn builds() {
         ],
         &rows,
     );
-}
-
-/// How often builds of this trial take turns.
-fn turns(name: &str) -> usize {
-    match name {
-        "slowest_build" => SLOW_BUILD_TURNS,
-        _ => BUILD_TURNS,
-    }
 }
 
 /// Trials of a supplier's table by the proved library beside those of the second
@@ -249,7 +241,7 @@ fn supplied_tables() {
             .find(|supplied| *supplied != own)
             .expect("the table has two rows");
         let [proved, second, build] =
-            Builds::new().trial_times(turns(name), &query, &supplied.write());
+            Builds::new().trial_times(BUILD_TURNS, &query, &supplied.write());
         rows.push([
             name.to_owned(),
             own.states.len().to_string(),
@@ -274,19 +266,18 @@ fn supplied_tables() {
     );
 }
 
-/// The figures of document 000 for query 8 of TPC-R, beside those of the query
-/// as it is cut here.
+/// The figures of document 000 for query 8 of TPC-R, beside those of its joins here.
 fn section_6_2() {
     println!("## Document 000, section 6.2");
     println!();
-    let bytes = trials::named("tpcr_query_8").query;
+    let bytes = trials::named("six_joins").query;
     let table = built(&bytes);
     let (construction, _) = constructed(&bytes).expect("the trial's query has a table");
     let rows = [
         ["without pruning", "376", "80", "3040"].map(str::to_owned),
         ["with pruning", "38", "24", "912"].map(str::to_owned),
         [
-            "here, cut to 8 produced orders and 8 sets".to_owned(),
+            "here, six of its joins from two indexes".to_owned(),
             construction.nodes.len().to_string(),
             table[0].to_string(),
             table.len().to_string(),

@@ -24,6 +24,16 @@ pub fn lookups(random: &mut Random, query: &Query, length: usize) -> Vec<Lookup>
     list
 }
 
+/// The same sets in a random sequence, some of them taken again.
+pub fn rearranged(random: &mut Random, sets: &[u8]) -> Vec<u8> {
+    let mut rearranged = sets.to_vec();
+    for _ in 0..random.below(sets.len() + 1) {
+        rearranged.push(sets[random.below(sets.len())]);
+    }
+    random.shuffle(&mut rearranged);
+    rearranged
+}
+
 /// A handle below the count, or once in a while one that is not.
 fn handle(random: &mut Random, count: usize) -> u8 {
     let granted = count > 0 && !random.one_in(12);

@@ -12,11 +12,11 @@ mod tables;
 pub use bytes::{
     any_bytes, assorted_bytes, choices, damaged, each_byte_changed, of_nearly_this_length,
 };
-pub use lookups::lookups;
+pub use lookups::{lookups, rearranged};
 pub use queries::{
-    any_query, constants_among_produced, dependency, most_orders, nearly_query, own_column_per_set,
-    query, query_of_many_states, query_of_sizes, query_with_table, some_columns, with_equal_orders,
-    Shape, QUERY_EDGES,
+    any_query, chain_of_equals, constants_among_produced, dependency, joined_starts, most_orders,
+    nearly_query, own_column_per_set, query, query_of_many_states, query_of_sizes,
+    query_with_table, some_columns, with_equal_orders, Shape, QUERY_EDGES,
 };
 pub use rows::rows;
 pub use supplied::{longest_chain, renumbered, supplied, unmerged, Kind, Supplied};

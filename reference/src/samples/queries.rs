@@ -7,12 +7,13 @@ use crate::query::{Dependency, Order, Query};
 use crate::random::Random;
 use crate::samples::bytes::{any_byte, any_sizes, damaged};
 
-/// Sizes of a query at and past their limits.
+/// Sizes of a query at and past their limits, and the most sets that can be built
+/// with eight produced orders and with one.
 pub const QUERY_EDGES: [&[u8]; 5] = [
     &[0, 1, 12, 13, 255],
     &[0, 1, 8, 9, 255],
     &[0, 8, 9, 255],
-    &[0, 8, 9, 255],
+    &[0, 4, 7, 8, 9, 255],
     &[0, 16, 17, 255],
 ];
 
@@ -42,6 +43,19 @@ impl Shape {
         lengths: (0, 4),
         sets: (0, 8),
         dependencies: (0, 16),
+    };
+    /// All sizes but for the sets: the choices of four sets from eight starts are
+    /// 128 states, so 8 is never given.
+    pub const FEW_SETS: Self = Self {
+        sets: (0, 4),
+        ..Self::FULL
+    };
+    /// All sizes but for the produced orders and the sets: the choices of seven
+    /// sets from one start are 128 states, so 8 is never given.
+    pub const ONE_START: Self = Self {
+        produced: (1, 1),
+        sets: (0, 7),
+        ..Self::FULL
     };
     /// The largest sizes, and long orders.
     pub const LARGEST: Self = Self {
@@ -74,7 +88,7 @@ impl Shape {
 }
 
 /// Produced (a), and per set its own b fixed by a, with (a,b) tested: any choice
-/// of sets is a state.
+/// of sets is a state with a row of its own.
 pub fn own_column_per_set(sets: u8) -> Query {
     Query {
         columns: 12,
@@ -87,15 +101,43 @@ pub fn own_column_per_set(sets: u8) -> Query {
     }
 }
 
-/// The most orders and sets. Set i fixes column 11 by column i, with (i) produced
-/// and (i,11) tested: each start, and each start after its set, is a state.
+/// Produced the first of some columns, tested the last one, and per set one column
+/// more that is equal to the one before: the last one is in order after all sets,
+/// so any choice of sets is a state, told from others by the sets it has not.
+pub fn chain_of_equals(sets: u8) -> Query {
+    Query {
+        columns: sets + 1,
+        produced: vec![vec![0]],
+        tested: vec![vec![sets]],
+        sets,
+        dependencies: (0..sets)
+            .map(|set| Dependency::equal(set, set, set + 1))
+            .collect(),
+    }
+}
+
+/// Produced (a) and (b), and every set says that a = b. Both starts have the same
+/// orderings after any set, so there is one state more than choices of sets.
+pub fn joined_starts(sets: u8) -> Query {
+    Query {
+        columns: 2,
+        produced: vec![vec![0], vec![1]],
+        tested: vec![],
+        sets,
+        dependencies: (0..sets).map(|set| Dependency::equal(set, 0, 1)).collect(),
+    }
+}
+
+/// The most orders, and four sets, for which there is always room. Set i fixes column
+/// 11 by columns i and i + 4, with each such (c) produced and (c,11) tested: each
+/// start, and each start after its set, has a row.
 pub fn most_orders() -> Query {
     Query {
         columns: 12,
-        produced: (0..8).map(|i| vec![i]).collect(),
-        tested: (0..8).map(|i| vec![i, 11]).collect(),
-        sets: 8,
-        dependencies: (0..8).map(|i| Dependency::fix(i, &[i], 11)).collect(),
+        produced: (0..8).map(|c| vec![c]).collect(),
+        tested: (0..8).map(|c| vec![c, 11]).collect(),
+        sets: 4,
+        dependencies: (0..8).map(|c| Dependency::fix(c % 4, &[c], 11)).collect(),
     }
 }
 
@@ -181,10 +223,10 @@ fn with_an_item_changed(random: &mut Random, query: &Query) -> Query {
     changed
 }
 
-/// A random query with many states: most sets fix a column of their own, so that
-/// nearly every choice of sets is a state.
+/// A random query with many states and rows: most sets fix a column of their own,
+/// so that nearly every choice of sets has a row.
 pub fn query_of_many_states(random: &mut Random) -> Query {
-    let sets = random.between((5, 8)) as u8;
+    let sets = random.between((4, 7)) as u8;
     let mut query = own_column_per_set(sets);
     for order in &mut query.tested {
         order.push(9);
@@ -219,11 +261,11 @@ pub fn any_query(random: &mut Random) -> Vec<u8> {
         4 => query(random, Shape::FULL).write(),
         5 => query_of_many_states(random).write(),
         6 => {
-            let dependencies = Shape::FULL.dependencies;
-            let shape = Shape {
-                dependencies,
+            let largest = Shape {
+                dependencies: Shape::FULL.dependencies,
                 ..Shape::LARGEST
             };
+            let shape = [Shape::FEW_SETS, Shape::ONE_START, largest][random.below(3)];
             query(random, shape).write()
         }
         7 => {

@@ -14,9 +14,7 @@ pub fn rows(
     count: usize,
 ) -> Vec<Row> {
     let rules: Vec<&Rule> = query
-        .dependencies
-        .iter()
-        .filter(|dependency| sets.contains(&dependency.set))
+        .dependencies_of(sets)
         .map(|dependency| &dependency.rule)
         .collect();
     let mut rows: Vec<Row> = Vec::new();

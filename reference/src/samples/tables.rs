@@ -3,12 +3,13 @@
 use crate::random::Random;
 use crate::samples::bytes::{any_byte, any_sizes};
 
-/// Sizes of a table at and past their limits.
+/// Sizes of a table at and past their limits, and the most sets of a query that
+/// can be built with eight produced orders and with one.
 pub const TABLE_EDGES: [&[u8]; 4] = [
     &[0, 1, 128, 129, 255],
     &[0, 1, 8, 9, 255],
     &[0, 8, 9, 255],
-    &[0, 8, 9, 255],
+    &[0, 4, 7, 8, 9, 255],
 ];
 
 /// A random table of the right total, most often of few states.
