@@ -1,13 +1,14 @@
 -- Document 02, Req 03: the same sets in any order, and however often, give the same answers, and lead to the same row; so do an empty set and none.
 use Prim.Native.Nat.{ℕ, _<_}
 use mathlib.Core.Path.{_≡_, sym, _∙_, ap, subst}
-use mathlib.Core.Bool.{Bool}
+use mathlib.Core.Bool.{Bool, true, false}
 use mathlib.Core.Logic.{⊎-elim, _↔_}
 use mathlib.Core.List.{List, [], _∷_, _++_, List·Memᴰ, List·Memᴰ·head, List·Memᴰ·tail, List·Memᴰ·not-nil, List·Memᴰ·cases-cons, List·Memᴰ·append-cases, List·Memᴰ·eq-of-singleton, Memᴰ·append-left, Memᴰ·append-right, Memᴰ·cast}
 use lib.Dec.{eqb}
 use lib.ListN.{length, getD}
+use borrow.Author.Tests.{ne-eqb}
 use Rattle.theory.specs.Tests.{member}
-use Rattle.theory.specs.Orders.{Order, sameOrder, Dependency, Query, rulesOf, After}
+use Rattle.theory.specs.Orders.{Order, sameOrder, Dependency, Query, rulesOf, Reach, Start, whole, After}
 use Rattle.theory.specs.Choices.{Choice, inForce, withSet, withSets}
 use Rattle.theory.specs.Closure.{closure}
 use Rattle.theory.specs.Machine.{AllBelow, runs}
@@ -50,6 +51,12 @@ not-empty q s e d m f =
     List·Memᴰ·not-nil
     (subst (λ rs. List·Memᴰ (d .rule) rs) e
     (from-rules (λ k. member eqb k (s ∷ [])) (q .dependencies) m (true-says (says-member decides-number (d .set) (s ∷ [])) (List·Memᴰ·head f))))
+
+-- An empty set gives no ordering more.
+pub after-empty : (q : Query) (p : Order) (ss : List ℕ) (s : ℕ) → rulesOf q (s ∷ []) ≡ [] → After q p (s ∷ ss) ≡ After q p ss
+after-empty q p ss s e =
+    ap (λ rs. Reach whole rs (Start p))
+    (rules-same (λ k. member eqb k (s ∷ ss)) (λ k. member eqb k ss) (q .dependencies) (λ d m. ap (λ b. elim b [ true ↦ true | false ↦ member eqb (d .set) ss ]) (ne-eqb (d .set) s (not-empty q s e d m))))
 
 -- a set in the midst, and at the beginning
 moved : (ss : List ℕ) (s : ℕ) (rs : List ℕ) (k : ℕ) → List·Memᴰ k (ss ++ (s ∷ rs)) ↔ List·Memᴰ k (s ∷ (ss ++ rs))

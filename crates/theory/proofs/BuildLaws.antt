@@ -1,7 +1,7 @@
 -- Constructing, and every outcome of a build, mean what the refusal list says.
 use Prim.Native.Nat.{ℕ, _^_, _≤_, _<_}
 use native.Mathlib.Omega.{arith}
-use mathlib.Core.Path.{_≡_, sym, _∙_, ap, subst}
+use mathlib.Core.Path.{_≡_, refl, sym, _∙_, ap, subst}
 use mathlib.Core.Bool.{Bool, true, false}
 use mathlib.Core.Logic.{_↔_}
 use mathlib.Core.List.{List·Memᴰ}
@@ -13,7 +13,7 @@ use Rattle.theory.specs.Limits.{maxNodes, maxStates, maxSets, scratchLen
 use Rattle.theory.specs.Orders.{Order, Query}
 use Rattle.theory.specs.Closure.{More}
 use Rattle.theory.specs.Construction.{Node, nodes}
-use Rattle.theory.specs.States.{State, states}
+use Rattle.theory.specs.States.{State, states, MorePairs}
 use Rattle.theory.specs.Refusals.{passed, orderings-refused, states-refused, space-refused}
 use Rattle.theory.specs.Query.{Bytes, setCount, readQuery, queryRefusal}
 use Rattle.theory.specs.Table.{Table, writeTable}
@@ -21,6 +21,7 @@ use Rattle.theory.specs.Build.{Constructed, too-many, table, queryTable,
 use Rattle.theory.proofs.Reflect.{false-says, says-eqb, says-ltb}
 use Rattle.theory.proofs.NodeLaws.{nodes-exactly, nodes-many}
 use Rattle.theory.proofs.StatesListed.{states-many, states-choices}
+use Rattle.theory.proofs.StatePairs.{states-pairs}
 use Rattle.theory.proofs.QueryLaws.{query-sizes, produced-count, set-count}
 
 -- where there are not too many nodes, the computed list has exactly the nodes
@@ -47,6 +48,18 @@ module _ (q : Query) where
   pub construct-means : Constructs q (construct q)
   unfolding construct
   construct-means = reached-means (nodes-many q)
+
+  -- Refusal 8 in the derivation's words: where 7 does not come, it comes exactly when there are more than 128 different pairs of a set of orderings and sets in force.
+  pub eight-exactly : ¬ More maxNodes (Node q) → (construct q ≡ too-many states-refused) ↔ MorePairs q maxStates
+  unfolding construct
+  eight-exactly n =
+      let exact = nodes-listed q n in
+      subst (λ o. (o ≡ too-many states-refused) ↔ MorePairs q maxStates) (sym (ap reached (false-says (nodes-many q) n))) (go exact (states-many q (nodes q) exact maxStates))
+    where
+      go : ((o : Order) → List·Memᴰ o (nodes q) ↔ Node q o) → {b : Bool} → Says (More maxStates (State q (nodes q))) b → (numbered b ≡ too-many states-refused) ↔ MorePairs q maxStates
+      go exact (holds m) = (λ e. states-pairs q (nodes q) exact maxStates .0 m, λ p. refl)
+      go exact (fails k) =
+          (λ e. let z : _≡_ {A = ℕ} 0 1 = cc in let f : ⊥ = omega arith in absurd f, λ p. absurd (k (states-pairs q (nodes q) exact maxStates .1 p)))
 
   -- Eight sets have 256 choices, and a state for each.
   pub eight-constructed : q .sets ≡ maxSets → 1 ≤ length (q .produced) → ¬ More maxNodes (Node q) → construct q ≡ too-many states-refused
