@@ -30,8 +30,8 @@ heldUnder q ns p c = heldAmong q ns (orderingsUnder q ns p c)
 abbrev pub sameState : Marks × Choice → Marks × Choice → Bool
 sameState x y = sameMarks (x .0) (y .0) && sameList Bool·beq (x .1) (y .1)
 
--- The construction as a machine: a *state* before merging is its orderings and its sets in force. A set that is taken comes into force, and then all sets in force
--- together give what they give.
+-- The construction as a machine: a *state* before merging is its orderings and its sets in force. A set that is taken comes into force beside them, and its orderings
+-- become all that the sets in force give together.
 abbrev pub construction : Query → List Order → Machine (Marks × Choice)
 construction q ns =
     record {
