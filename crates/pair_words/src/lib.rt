@@ -42,12 +42,19 @@ pub fn read(work: &[u8], sets: usize, p: usize, x: usize) -> u16
     word(work[at], work[at + 1])
 }
 
+// Write a word at a place, low byte first. All other bytes keep their values.
+pub fn put(work: &mut [u8], at: usize, word: u16)
+    requires { ⌜ at + 2 ≤ length (now work) ⌝ }
+    ensures { λ r. ⌜ now (work .exit) ≡ placed at (word % 256 ∷ word / 256 ∷ []) (now (work .entry)) ⌝ }
+{
+    work[at] = (word % 256) as u8;
+    work[at + 1] = (word / 256) as u8;
+}
+
 // Write the word of produced order p under choice x. All other bytes keep their values.
 pub fn write(work: &mut [u8], sets: usize, p: usize, x: usize, word: u16)
     requires { ⌜ (p < maxProduced) × (sets ≤ maxSets) × (x < 2 ^ sets) × (heldPart ≤ length (now work)) ⌝ }
     ensures { λ r. ⌜ now (work .exit) ≡ placed (pairAt sets p x) (word % 256 ∷ word / 256 ∷ []) (now (work .entry)) ⌝ }
 {
-    let at = place(sets, p, x);
-    work[at] = (word % 256) as u8;
-    work[at + 1] = (word / 256) as u8;
+    put(work, place(sets, p, x), word);
 }

@@ -26,8 +26,7 @@ fn hold_row(work: &mut [u8], bits: usize, sets: usize, i: usize)
         find::byte(work, at),
         find::byte(work, at + 1),
     );
-    work[at] = (word % 256) as u8;
-    work[at + 1] = (word / 256) as u8;
+    pair_words::put(work, at, word as u16);
 }
 
 // Each row's pair becomes its held word.

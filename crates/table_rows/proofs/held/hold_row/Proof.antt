@@ -1,15 +1,13 @@
 -- `table_rows::held::hold_row` meets its contract: the two bytes are those of the row's held list.
 use Prim.Native.Nat.{_+_, _/_, _%_}
-use native.Mathlib.Omega.{arith}
 use mathlib.Core.Path.{sym, _∙_, ap, ap₂}
 use mathlib.Core.List.{[], _∷_}
 use denote.Ref.{now}
-use lib.ListN.{take, length-set}
+use lib.ListN.{take}
 use borrow.Author.Needs.{needs}
 use Rattle.theory.specs.Query.{byteAt}
 use Rattle.theory.specs.Scratch.{heldPart}
 use Rattle.byte_rows.specs.Placed.{placed}
-use Rattle.pair_words.proofs.PairWords.{placed-two}
 use Rattle.table_rows.specs.Walk.{cutWord, rowPlace}
 use Rattle.table_rows.proofs.StateLaws.{state-held}
 use Rattle.table_rows.proofs.held.hold_row.Statement.{statement}
@@ -33,34 +31,24 @@ byte-requires-2 c κs = search needs
 cut-word-requires : tie.Need-cut-word-requires
 cut-word-requires c κs = search needs
 
-cast-work : tie.Need-cast-work
-cast-work c = search needs
+cast-put : tie.Need-cast-put
+cast-put c = search needs
 
-slice-write-work : tie.Need-slice-write-work
-slice-write-work c = search needs
-
-cast-work-2 : tie.Need-cast-work-2
-cast-work-2 c = search needs
-
-add-work : tie.Need-add-work
-add-work c = search needs
-
-slice-write-work-2 : tie.Need-slice-write-work-2
-slice-write-work-2 c = simp length-set (omega arith)
+put-requires : tie.Need-put-requires
+put-requires c κs = search needs
 
 same-length : tie.Need-same-length
 same-length c = search needs
 
 returns : tie.Need-returns
 returns c =
-    let a = c .before .before .before .before .before .args in
+    let t = c .before .before .before .before in
+    let a = t .before .before .before .before .before .args in
     let w = now (a .work) in
     let words = take heldPart w in
     let at = rowPlace (a .i) in
-    let word = c .cut-word in
-    let e = word .ensures .0 ∙ ap₂ (cutWord (a .bits) (a .sets) words) (c .before .before .byte .ensures) (c .before .byte2 .ensures) in
-    placed-two at (word .result % 256) (word .result / 256) w (omega arith)
-    ∙ ap (λ n. placed at (n % 256 ∷ n / 256 ∷ []) w) e
+    let e = t .cut-word .ensures .0 ∙ ap₂ (cutWord (a .bits) (a .sets) words) (t .before .before .byte .ensures) (t .before .byte2 .ensures) in
+    c .before .before .put .ensures ∙ ap (λ n. placed at (n % 256 ∷ n / 256 ∷ []) w) e
     ∙ ap (λ b. placed at b w) (sym (state-held (a .bits) (a .sets) words (byteAt w at) (byteAt w (at + 1))))
 
 pub hold-row-spec : {M : Type 1} → statement M
@@ -73,10 +61,7 @@ hold-row-spec =
     add-byte
     byte-requires-2
     cut-word-requires
-    cast-work
-    slice-write-work
-    cast-work-2
-    add-work
-    slice-write-work-2
+    cast-put
+    put-requires
     same-length
     returns)
