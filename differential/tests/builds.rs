@@ -10,7 +10,7 @@ use differential::{codes, proved, rounds, Library, SCRATCH_LENGTHS};
 use order_tables::{LISTING_BYTES, LONGEST_TABLE, SCRATCH_BYTES};
 use reference::builder::build_table;
 use reference::construction::{Construction, Limits};
-use reference::lookups::{model_answers, table_answers, Answer, Lookup};
+use reference::lookups::{model_answers, table_answers, Answer};
 use reference::merging::merged;
 use reference::random::Random;
 use reference::samples::{
@@ -316,15 +316,6 @@ fn lists_of_lookups_on_built_tables() {
     }
 }
 
-/// The lookups that enter by a produced order, take some sets in turn and ask for
-/// every interesting order.
-fn asks_after(query: &Query, produced: u8, sets: &[u8]) -> Vec<Lookup> {
-    let mut lookups = vec![Lookup::Enter(produced)];
-    lookups.extend(sets.iter().copied().map(Lookup::Take));
-    lookups.extend((0..query.interesting().count() as u8).map(Lookup::Ask));
-    lookups
-}
-
 #[test]
 fn the_same_sets_in_any_order_and_however_often() {
     for round in 0..rounds() {
@@ -339,7 +330,7 @@ fn the_same_sets_in_any_order_and_however_often() {
                 let produced = random.below(query.produced.len()) as u8;
                 let sets: Vec<u8> = (0..query.sets).filter(|_| !random.one_in(4)).collect();
                 let row = Library::follow(table, produced, &sets);
-                let answers = model_answers(&query, &asks_after(&query, produced, &sets));
+                let answers = model_answers(&query, &samples::asks_after(&query, produced, &sets));
                 let answers = &answers[1 + sets.len()..];
                 held += answers.iter().filter(|&&a| a == Answer::Held(true)).count();
                 not_held += answers
@@ -349,7 +340,7 @@ fn the_same_sets_in_any_order_and_however_often() {
                 for _ in 0..4 {
                     let rearranged = samples::rearranged(&mut random, &sets);
                     let case = format!("{sets:?} {rearranged:?} on the table of {query:?}");
-                    let lookups = asks_after(&query, produced, &rearranged);
+                    let lookups = samples::asks_after(&query, produced, &rearranged);
                     let given = table_answers::<Library>(table, &lookups);
                     assert!(given.ends_with(answers), "{case}");
                     let other = Library::follow(table, produced, &rearranged);

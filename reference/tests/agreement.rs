@@ -66,15 +66,6 @@ fn every_order_is_asked_after_every_pair_of_takes() {
     }
 }
 
-/// The lookups that enter by a produced order, take some sets in turn and ask for
-/// every interesting order.
-fn asks_after(query: &Query, produced: u8, sets: &[u8]) -> Vec<Lookup> {
-    let mut lookups = vec![Lookup::Enter(produced)];
-    lookups.extend(sets.iter().copied().map(Lookup::Take));
-    lookups.extend((0..query.interesting().count() as u8).map(Lookup::Ask));
-    lookups
-}
-
 #[test]
 fn the_same_sets_in_any_order_and_however_often_give_the_same_answers_and_row() {
     let mut random = Random::new(78);
@@ -84,13 +75,13 @@ fn the_same_sets_in_any_order_and_however_often_give_the_same_answers_and_row() 
         let interesting = query.interesting().count();
         for produced in 0..query.produced.len() as u8 {
             let sets: Vec<u8> = (0..query.sets).filter(|_| !random.one_in(4)).collect();
-            let answers = model_answers(&query, &asks_after(&query, produced, &sets));
+            let answers = model_answers(&query, &samples::asks_after(&query, produced, &sets));
             let answers = &answers[answers.len() - interesting..];
             let row = Reference::follow(&table, produced, &sets);
             let rearranged = samples::rearranged(&mut random, &sets);
             let case = format!("{sets:?} {rearranged:?} {query:?}");
 
-            let lookups = asks_after(&query, produced, &rearranged);
+            let lookups = samples::asks_after(&query, produced, &rearranged);
             assert!(model_answers(&query, &lookups).ends_with(answers), "{case}");
             assert!(
                 table_answers::<Reference>(&table, &lookups).ends_with(answers),

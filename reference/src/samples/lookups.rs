@@ -1,4 +1,4 @@
-//! Random lists of lookups.
+//! Lists of lookups, most of them random.
 
 use crate::lookups::Lookup;
 use crate::query::Query;
@@ -22,6 +22,15 @@ pub fn lookups(random: &mut Random, query: &Query, length: usize) -> Vec<Lookup>
         });
     }
     list
+}
+
+/// The lookups that enter by a produced order, take some sets in turn and ask for
+/// every interesting order.
+pub fn asks_after(query: &Query, produced: u8, sets: &[u8]) -> Vec<Lookup> {
+    let mut lookups = vec![Lookup::Enter(produced)];
+    lookups.extend(sets.iter().copied().map(Lookup::Take));
+    lookups.extend((0..query.interesting().count() as u8).map(Lookup::Ask));
+    lookups
 }
 
 /// The same sets in a random sequence, some of them taken again.

@@ -12,7 +12,7 @@ mod tables;
 pub use bytes::{
     any_bytes, assorted_bytes, choices, damaged, each_byte_changed, of_nearly_this_length,
 };
-pub use lookups::{lookups, rearranged};
+pub use lookups::{asks_after, lookups, rearranged};
 pub use queries::{
     any_query, chain_of_equals, constants_among_produced, dependency, joined_starts, most_orders,
     nearly_query, own_column_per_set, query, query_of_many_states, query_of_sizes,
