@@ -4,10 +4,11 @@ use native.Mathlib.Nat.{le-of-suc-le-suc, not-suc-le-zero}
 use native.Mathlib.Omega.{arith}
 use mathlib.Core.Path.{_≡_, refl, sym, _∙_, ap, ap₂}
 use mathlib.Core.Logic.{_↔_}
-use mathlib.Core.Bool.{Bool, true, false, _||_, false≢true}
+use mathlib.Core.Bool.{Bool, true, false, _||_, false≢true, or-true, or-false}
 use mathlib.Core.List.{List, [], _∷_, map, List·Memᴰ, List·Memᴰ·head, List·Memᴰ·tail, List·Memᴰ·not-nil, List·Memᴰ·eq-of-singleton, flatten}
 use lib.Dec.{eqb}
-use lib.ListN.{length}
+use lib.ListN.{length, length-replicate}
+use lib.Seq.{ext-getD}
 use Rattle.theory.specs.Tests.{Says, holds, fails, pick, member, upFrom}
 use Rattle.theory.specs.Machine.{AllBelow}
 use Rattle.theory.specs.Choices.{Choice, inForce, noSets, withSet, withSets, either}
@@ -19,10 +20,6 @@ pub with-length : (c : Choice) (s : ℕ) → length (withSet c s) ≡ length c
 with-length [] s = refl
 with-length (b ∷ c) zero = refl
 with-length (b ∷ c) (suc s) = ap suc (with-length c s)
-
-pub none-length : (n : ℕ) → length (noSets n) ≡ n
-none-length zero = refl
-none-length (suc n) = ap suc (none-length n)
 
 pub withs-length : (c : Choice) (ss : List ℕ) → length (withSets c ss) ≡ length c
 withs-length c [] = refl
@@ -70,29 +67,18 @@ withs-force c [] k l = refl
 withs-force c (s ∷ ss) k l =
     withs-force (withSet c s) ss k (λ n m. rw (with-length c s) (l n (List·Memᴰ·tail m))) ∙ go (says-eqb k s)
   where
-    last : (b : Bool) → (b || true) ≡ true
-    last true = refl
-    last false = refl
-
     go : {b : Bool} → Says (k ≡ s) b → (member eqb k ss || inForce (withSet c s) k) ≡ ((elim b [ true ↦ true | false ↦ member eqb k ss ]) || inForce c k)
-    go (holds e) = ap (λ b. member eqb k ss || b) (ap (inForce (withSet c s)) e ∙ with-own c s (l s (List·Memᴰ·head refl))) ∙ last (member eqb k ss)
+    go (holds e) = ap (λ b. member eqb k ss || b) (ap (inForce (withSet c s)) e ∙ with-own c s (l s (List·Memᴰ·head refl))) ∙ or-true (member eqb k ss)
     go (fails n) = ap (λ b. member eqb k ss || b) (with-other c s k n)
 
 -- In force after some sets alone is what is one of them.
 pub taken-force : (n : ℕ) (ss : List ℕ) → AllBelow n ss → (k : ℕ) → inForce (withSets (noSets n) ss) k ≡ member eqb k ss
 taken-force n ss l k =
-    withs-force (noSets n) ss k (λ s m. rw (none-length n) (l s m)) ∙ ap (λ b. member eqb k ss || b) (none-force n k) ∙ go (member eqb k ss)
-  where
-    go : (b : Bool) → (b || false) ≡ b
-    go true = refl
-    go false = refl
+    withs-force (noSets n) ss k (λ s m. rw (length-replicate n false) (l s m)) ∙ ap (λ b. member eqb k ss || b) (none-force n k) ∙ or-false (member eqb k ss)
 
 -- Choices of the same length with the same sets in force are the same.
 pub choice-same : (c d : Choice) → length c ≡ length d → ((s : ℕ) → inForce c s ≡ inForce d s) → c ≡ d
-choice-same [] [] e f = refl
-choice-same [] (b ∷ d) e f = absurd (omega arith)
-choice-same (b ∷ c) [] e f = absurd (omega arith)
-choice-same (b ∷ c) (b′ ∷ d) e f = ap₂ _∷_ (f zero) (choice-same c d (omega arith) (λ s. f (suc s)))
+choice-same c d e f = ext-getD false c d e (λ s h. f s)
 
 -- The same sets, in any order and however often, give one choice.
 pub withs-same : (c : Choice) (ss rs : List ℕ) → AllBelow (length c) ss → AllBelow (length c) rs → ((s : ℕ) → List·Memᴰ s ss ↔ List·Memᴰ s rs) → withSets c ss ≡ withSets c rs
@@ -131,7 +117,7 @@ sets-below c s m = force-below c s (sets-in c s m)
 
 pub choice-sets : (n : ℕ) (c : Choice) → length c ≡ n → withSets (noSets n) (setsIn c) ≡ c
 choice-sets n c e =
-    choice-same (withSets (noSets n) (setsIn c)) c (withs-length (noSets n) (setsIn c) ∙ none-length n ∙ sym e)
+    choice-same (withSets (noSets n) (setsIn c)) c (withs-length (noSets n) (setsIn c) ∙ length-replicate n false ∙ sym e)
     (λ s.
     taken-force n (setsIn c) (λ k m. rw (← e) (sets-below c k m)) s
     ∙ says-one (says-member decides-number s (setsIn c)) (says-by (inForce c s) (in-sets c s) (λ f m. false≢true (sym f ∙ sets-in c s m))))
@@ -141,11 +127,7 @@ pub either-with : (c d : Choice) (s : ℕ) → either (withSet c s) d ≡ either
 either-with [] d s = refl
 either-with (a ∷ c) [] zero = refl
 either-with (a ∷ c) [] (suc s) = refl
-either-with (a ∷ c) (b ∷ d) zero = ap (λ x. x ∷ either c d) (go a)
-  where
-    go : (a : Bool) → true ≡ (a || true)
-    go true = refl
-    go false = refl
+either-with (a ∷ c) (b ∷ d) zero = ap (λ x. x ∷ either c d) (sym (or-true a))
 either-with (a ∷ c) (b ∷ d) (suc s) = ap (λ x. (a || b) ∷ x) (either-with c d s)
 
 pub either-none : (n : ℕ) (d : Choice) → length d ≡ n → either (noSets n) d ≡ d
@@ -158,11 +140,7 @@ pub either-no-more : (n : ℕ) (c : Choice) → length c ≡ n → either c (noS
 either-no-more zero [] e = refl
 either-no-more zero (b ∷ c) e = absurd (omega arith)
 either-no-more (suc n) [] e = absurd (omega arith)
-either-no-more (suc n) (b ∷ c) e = ap₂ _∷_ (go b) (either-no-more n c (omega arith))
-  where
-    go : (b : Bool) → (b || false) ≡ b
-    go true = refl
-    go false = refl
+either-no-more (suc n) (b ∷ c) e = ap₂ _∷_ (or-false b) (either-no-more n c (omega arith))
 
 -- the first is in force in both together
 pub either-keeps : (c d : Choice) → length c ≡ length d → (s : ℕ) → inForce c s ≡ true → inForce (either c d) s ≡ true

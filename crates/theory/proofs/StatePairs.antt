@@ -2,10 +2,11 @@
 use Prim.Native.Nat.{ℕ, suc, _<_}
 use native.Mathlib.Omega.{arith}
 use mathlib.Core.Path.{_≡_, refl, sym, _∙_, ap, ap₂, subst}
+use mathlib.Core.Bool.{false}
 use mathlib.Core.Logic.{_↔_}
 use mathlib.Core.List.{List, [], _∷_, map, List·Memᴰ, List·Memᴰ·head, List·Memᴰ·tail, List·Memᴰ·not-nil, Memᴰ·of-map, Memᴰ·cast}
 use lib.Dec.{eqb}
-use lib.ListN.{length, getD, length-map}
+use lib.ListN.{length, getD, length-map, length-replicate}
 use Rattle.theory.specs.Tests.{Distinct, empty, also, member}
 use Rattle.theory.specs.Orders.{Order, Orderings, Query, Reach}
 use Rattle.theory.specs.Choices.{Choice, inForce, noSets, withSets, rulesUnder}
@@ -16,7 +17,7 @@ use Rattle.theory.specs.States.{orderingsUnder, State, states, Pair, One
 use Rattle.theory.proofs.Reflect.{says-true, says-member, true-says, decides-number}
 use Rattle.theory.proofs.ListLaws.{member-getD, getD-member}
 use Rattle.theory.proofs.RowLaws.{all-cons}
-use Rattle.theory.proofs.ChoiceLaws.{none-length, taken-force, withs-same}
+use Rattle.theory.proofs.ChoiceLaws.{taken-force, withs-same}
 use Rattle.theory.proofs.StateLaws.{Alike, In, close-exactly, close-same, orderings-after}
 use Rattle.theory.proofs.StatesListed.{state-is, run-state}
 
@@ -50,7 +51,7 @@ module _ (q : Query) (ns : List Order) (exact : (o : Order) → List·Memᴰ o n
   after x = orderings-after q ns exact (x .order) (x .produced) (x .sets) (x .below)
 
   below-none : (x : Pair q) → AllBelow (length (noSets (q .sets))) (x .sets)
-  below-none x s m = subst (λ n. s < n) (sym (none-length (q .sets))) (x .below s m)
+  below-none x s m = subst (λ n. s < n) (sym (length-replicate (q .sets) false)) (x .below s m)
 
   -- pairs that are one state have the same orderings and sets in force, ..
   one-state : (x y : Pair q) → OneState q x y → stateOf x ≡ stateOf y

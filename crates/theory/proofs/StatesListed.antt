@@ -1,13 +1,14 @@
 -- The states before merging: a run of sets leads to the orderings under its choice, the computed list has exactly the states, each once, and each goes to the tree of
 -- its answers.
 use Prim.Native.Nat.{ℕ, _^_, _<_, _≤_}
+use native.Mathlib.Nat.{le-of-eq}
 use native.Mathlib.Omega.{arith}
 use mathlib.Core.Path.{_≡_, refl, sym, _∙_, ap, ap₂, subst}
-use mathlib.Core.Bool.{true}
+use mathlib.Core.Bool.{true, false}
 use mathlib.Core.Logic.{_↔_}
 use mathlib.Core.List.{List, [], _∷_, map, List·Memᴰ, Memᴰ·map, Memᴰ·of-map, Memᴰ·cast}
 use lib.Dec.{ltb}
-use lib.ListN.{length, getD, length-map}
+use lib.ListN.{length, getD, length-map, length-replicate}
 use Rattle.theory.specs.Tests.{Says, Decides, Distinct, upFrom, bitsOf}
 use Rattle.theory.specs.Orders.{Order, Query}
 use Rattle.theory.specs.Choices.{Choice, inForce, noSets, withSet, withSets, either}
@@ -19,10 +20,10 @@ use Rattle.theory.specs.States.{closeUnder, orderingsUnder, heldAmong, h
 use Rattle.theory.proofs.Reflect.{says-as, says-and, says-ltb, decides-list, decides-bool, decides-marks}
 use Rattle.theory.proofs.ListLaws.{Within, member-getD, getD-member, distinct-length, distinct-map, member-flatten-map, flatten-map-member, distinct-flatten, member-upFrom, upFrom-member, upFrom-length, upFrom-distinct}
 use Rattle.theory.proofs.ClosureLaws.{added-distinct, added-all, addAll-has}
-use Rattle.theory.proofs.RowLaws.{number-below}
+use Rattle.theory.proofs.RowLaws.{number-fits}
 use Rattle.theory.proofs.PairLaws.{Covers}
 use Rattle.theory.proofs.ChoiceNumbers.{bits-length, bits-number, bits-one}
-use Rattle.theory.proofs.ChoiceLaws.{none-length, withs-length, with-length, with-keeps, setsIn, sets-below, choice-sets, either-with, either-none, either-no-more, either-keeps}
+use Rattle.theory.proofs.ChoiceLaws.{withs-length, with-length, with-keeps, setsIn, sets-below, choice-sets, either-with, either-none, either-no-more, either-keeps}
 use Rattle.theory.proofs.AnswerLaws.{tree-same, take-tree, held-tree}
 use Rattle.theory.proofs.StateLaws.{close-again}
 
@@ -39,7 +40,7 @@ module _ (q : Query) (ns : List Order) (exact : (o : Order) → List·Memᴰ o n
   order p = getD (q .produced) p []
 
   taken-length : (ss : List ℕ) → length (taken ss) ≡ q .sets
-  taken-length ss = withs-length (noSets (q .sets)) ss ∙ none-length (q .sets)
+  taken-length ss = withs-length (noSets (q .sets)) ss ∙ length-replicate (q .sets) false
 
   runs-close : (ms : Marks) (c : Choice) (ss : List ℕ) → runs (construction q ns) (closeUnder q ns ms c, c) ss ≡ (closeUnder q ns ms (withSets c ss), withSets c ss)
   runs-close ms c [] = refl
@@ -85,7 +86,7 @@ module _ (q : Query) (ns : List Order) (exact : (o : Order) → List·Memᴰ o n
     λ r.
         let c = taken (r .sets) in
         let e = taken-length (r .sets) in
-        let low : number c < 2 ^ q .sets = subst (λ n. number c < 2 ^ n) e (number-below c) in
+        let low = number-fits c (q .sets) (le-of-eq e) in
         Memᴰ·cast (sym (state-is x r))
         (flatten-map-member under {x = number c} (upFrom-member 0 (2 ^ q .sets) (omega arith) (omega arith))
         (subst (λ d. List·Memᴰ {A = Marks × Choice} (orderingsUnder q ns (order (r .order)) c, c) (map (λ ms. (ms, d)) (statesUnder q ns d))) (sym (bits-number (q .sets) c e))
@@ -149,7 +150,7 @@ module _ (q : Query) (ns : List Order) (exact : (o : Order) → List·Memᴰ o n
             tree-same (q .sets) (λ d. heldAmong q ns (closeUnder q ns (orderingsUnder q ns (order p) (noSets (q .sets))) (either (noSets (q .sets)) d))) (λ d. heldUnder q ns (order p) d)
             (λ d e.
             ap (λ c. heldAmong q ns (closeUnder q ns (orderingsUnder q ns (order p) (noSets (q .sets))) c)) (either-none (q .sets) d e)
-            ∙ ap (heldAmong q ns) (close-again q ns exact (startState ns (order p)) (noSets (q .sets)) d (λ s f. subst (λ c. inForce c s ≡ true) (either-none (q .sets) d e) (either-keeps (noSets (q .sets)) d (none-length (q .sets) ∙ sym e) s f))));
+            ∙ ap (heldAmong q ns) (close-again q ns exact (startState ns (order p)) (noSets (q .sets)) d (λ s f. subst (λ c. inForce c s ≡ true) (either-none (q .sets) d e) (either-keeps (noSets (q .sets)) d (length-replicate (q .sets) false ∙ sym e) s f))));
         successors = λ x s r h.
             tree-same (q .sets) (λ d. heldAmong q ns (closeUnder q ns (closeUnder q ns (x .0) (withSet (x .1) s)) (either (withSet (x .1) s) d))) (λ d. heldAmong q ns (closeUnder q ns (x .0) (either (x .1) (withSet d s))))
             (λ d e.

@@ -27,11 +27,12 @@ heldAmong q ns ms = map (λ o. holdsIn ns ms o) (interesting q)
 abbrev pub heldUnder : Query → List Order → Order → Choice → List Bool
 heldUnder q ns p c = heldAmong q ns (orderingsUnder q ns p c)
 
+-- Two states are the same where both are.
 abbrev pub sameState : Marks × Choice → Marks × Choice → Bool
 sameState x y = sameMarks (x .0) (y .0) && sameList Bool·beq (x .1) (y .1)
 
--- The construction as a machine: a *state* before merging is its orderings and its sets in force. A set that is taken comes into force beside them, and its orderings
--- become all that the sets in force give together.
+-- The construction as a machine: a *state* before merging is its orderings and its sets in force. A set that is taken comes into force too, and the orderings become
+-- all that the sets in force give together.
 abbrev pub construction : Query → List Order → Machine (Marks × Choice)
 construction q ns =
     record {
@@ -41,6 +42,7 @@ construction q ns =
       same = sameState;
     }
 
+-- A state is reached from a start by some sets.
 abbrev pub State : Query → List Order → Marks × Choice → Type 0
 State q ns = Reached (construction q ns) (sizesOf q)
 
