@@ -1,4 +1,4 @@
-// Bytes and rows of bytes of any width, read, written and cleared. Reading a byte and clearing take any bytes; reading a row and copying require that it lies
+// Bytes, words and rows of bytes of any width, read, written and cleared. Reading a byte or a word and clearing take any bytes; reading a row and copying require that it lies
 // within the bytes, which their callers have shown: neither is an entry point.
 ghost use mathlib.Core.Path.{_≡_};
 ghost use Prim.Native.Nat.{_+_, _*_, _≤_};
@@ -12,6 +12,13 @@ pub fn byte(bytes: &[u8], i: usize) -> u8
     ensures { λ r. ⌜ r ≡ byteAt (now (bytes .entry)) i ⌝ }
 {
     if i < bytes.len() { bytes[i] } else { 0 }
+}
+
+// Two bytes as a word, low byte first.
+pub fn word(low: u8, high: u8) -> u16
+    ensures { λ r. ⌜ r ≡ low + 256 * high ⌝ }
+{
+    low as u16 + 256 * (high as u16)
 }
 
 // The row reader: the first bytes of a part that starts at a row.

@@ -1,4 +1,4 @@
--- Two states hold the same orders exactly when their two held bytes are the same; and pairs, some after others, whose states hold the same.
+-- Two states hold the same orders exactly when their held words are the same; and pairs, some after others, whose states hold the same.
 use Prim.Native.Nat.{ℕ, _+_, _<_, _≤_}
 use native.Mathlib.Omega.{arith}
 use mathlib.Core.Path.{_≡_, sym, _∙_, ap, subst}
@@ -6,36 +6,23 @@ use mathlib.Core.Bool.{Bool, true, false, not, true≢false, false≢true}
 use mathlib.Core.Logic.{_≢_}
 use lib.Dec.{eqb}
 use Rattle.theory.specs.Tests.{Says, holds, fails}
-use Rattle.theory.specs.Query.{Bytes, byteAt}
-use Rattle.theory.specs.Table.{statesIn, producedIn, testedIn, heldIn, heldNumber, heldOrders}
+use Rattle.theory.specs.Query.{Bytes}
+use Rattle.theory.specs.Table.{statesIn, producedIn, testedIn, wordIn, heldOrders}
 use Rattle.theory.proofs.Reflect.{says-as, says-eqb, says-ltb}
 use Rattle.theory.proofs.Faithfulness.{table-checked}
-use Rattle.theory.proofs.WordLaws.{bytes-orders, orders-word}
+use Rattle.theory.proofs.WordLaws.{word-orders, orders-word}
 use Rattle.marks.specs.Marks.{inMarks}
 use Rattle.pairs.specs.Pairs.{ourState, theirState, Comparable}
 use Rattle.comparison.specs.Alike.{AlikeFrom}
-use Rattle.pairs.proofs.TogetherLaws.{our-form}
 
 module _ {a b : Bytes} (c : Comparable a b) {x y : ℕ} (h : x < statesIn a) (k : y < statesIn b) where
   same : producedIn b + testedIn b ≡ producedIn a + testedIn a
   same = omega (arith, c .produced, c .tested)
 
-  few : producedIn a + testedIn a ≤ 16
-  few = omega (arith, our-form c .few-produced, our-form c .few-tested)
-
-  -- the first bytes, as they are read
-  module _ {l m : ℕ} (el : l ≡ byteAt (heldIn a x) 0) (em : m ≡ byteAt (heldIn b y) 0) (hl : l < 256) (hm : m < 256) where
-    numbers-same : heldOrders a x ≡ heldOrders b y → heldNumber a x ≡ heldNumber b y
-    numbers-same e = orders-word a b x y same few (table-checked a (c .ours) .words x h) (table-checked b (c .theirs) .words y k) (omega arith) (omega arith) e
-
-    -- where they differ, so do the orders ..
-    pub first-differ : l ≢ m → Says (heldOrders a x ≡ heldOrders b y) false
-    first-differ n = fails (λ e. let s = numbers-same e in n (omega arith))
-
-    -- .. and where they are the same, the second bytes decide
-    pub second-say : l ≡ m → {p q : ℕ} → p ≡ byteAt (heldIn a x) 1 → q ≡ byteAt (heldIn b y) 1 → Says (heldOrders a x ≡ heldOrders b y) (eqb p q)
-    second-say e {p} {q} ep eq =
-        says-as (λ s. bytes-orders a b x y same few (sym el ∙ e ∙ em) (sym ep ∙ s ∙ eq)) (λ o. let s = numbers-same o in omega arith) (says-eqb p q)
+  pub words-say : {v w : ℕ} → v ≡ wordIn a x → w ≡ wordIn b y → Says (heldOrders a x ≡ heldOrders b y) (eqb v w)
+  words-say {v} {w} ev ew =
+      says-as (λ e. word-orders a b x y same (sym ev ∙ e ∙ ew))
+      (λ o. ev ∙ orders-word a b x y same (table-checked a (c .ours) .words x h) (table-checked b (c .theirs) .words y k) o ∙ sym ew) (says-eqb v w)
 
 module _ {a b m : Bytes} where
   -- no pair that is in the set, one that is, and one that is not

@@ -10,7 +10,6 @@ ghost use Rattle.theory.specs.Scratch.{pairsLength};
 ghost use Rattle.theory.specs.Table.{statesIn, sizesIn, heldOrders, machineIn};
 ghost use Rattle.pairs.specs.Pairs.{Comparable, Walking};
 ghost use Rattle.comparison.specs.Alike.{AlikeFrom};
-use byte_rows::byte;
 use numbers::limits::MAX_STATES;
 
 // Whether two states hold the same orders, one of each table.
@@ -18,12 +17,7 @@ fn same_held(ours: &[u8], theirs: &[u8], x: usize, y: usize) -> bool
     requires { ⌜ Comparable (now ours) (now theirs) × (x < statesIn (now ours)) × (y < statesIn (now theirs)) ⌝ }
     ensures { λ r. ⌜ Says (heldOrders (now (ours .entry)) x ≡ heldOrders (now (theirs .entry)) y) r ⌝ }
 {
-    let our_held = table::held(ours, x);
-    let their_held = table::held(theirs, y);
-    if byte(our_held, 0) != byte(their_held, 0) {
-        return false;
-    }
-    byte(our_held, 1) == byte(their_held, 1)
+    table::held_word(ours, x) == table::held_word(theirs, y)
 }
 
 // Whether the states of pair i hold the same, if it is in the set.

@@ -3,7 +3,7 @@ use Prim.Native.Nat.{ℕ, _+_, _≤_}
 use mathlib.Core.Path.{_≡_}
 use mathlib.Core.List.{_++_, map, flatten}
 use lib.ListN.{length, take}
-use Rattle.theory.specs.Table.{heldNumber}
+use Rattle.theory.specs.Table.{wordIn}
 use Rattle.theory.specs.Tests.{upFrom}
 use Rattle.theory.specs.Query.{Bytes}
 use Rattle.theory.specs.Listing.{decimal, heldLabel, lineEnd}
@@ -60,4 +60,4 @@ lines line n = flatten (map line (upFrom 0 n))
 
 -- The end of a state's line.
 abbrev pub heldField : Bytes → ℕ → Bytes
-heldField t state = heldLabel ++ (decimal (heldNumber t state) ++ lineEnd)
+heldField t state = heldLabel ++ (decimal (wordIn t state) ++ lineEnd)

@@ -12,7 +12,7 @@ use crate::text::number_of;
 use crate::text::spaced_number;
 use crate::text::word;
 use numbers::limits;
-use table::held_number;
+use table::held_word;
 use table::produced;
 use table::states;
 use table::successors;
@@ -75,7 +75,7 @@ fn held_field(table: &[u8], state: usize, text: &mut [u8], at: usize) -> usize
     ensures { λ r. ⌜ Wrote (now (text .entry)) at (heldField (now (table .entry)) state) longestHeld (now (text .exit)) r ⌝ }
 {
     let first = word(text, at, b" held ");
-    let end = number_of(text, first, 5, held_number(table, state));
+    let end = number_of(text, first, 5, held_word(table, state) as usize);
     word(text, end, b"\n")
 }
 

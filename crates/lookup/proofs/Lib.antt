@@ -1,3 +1,4 @@
 -- What the proofs of this crate share.
 pub mod LookupLaws
+pub mod AskLaws
 pub mod CodeLaws

@@ -1,7 +1,7 @@
--- What a refused form makes of every lookup, the numbers of refusals, and what a granted row shows.
+-- What a refused form makes of every lookup, the numbers of refusals, and what it shows that a state's word or row is read, or is refused.
 use Prim.Native.Nat.{ℕ, zero, suc, _<_, _≤_}
 use native.Mathlib.Omega.{arith}
-use mathlib.Core.Path.{_≡_, refl, _∙_}
+use mathlib.Core.Path.{_≡_, refl, ap}
 use mathlib.Core.Bool.{Bool, true, false}
 use mathlib.Core.Logic.{_⊎_, inl, inr, ⊎-elim}
 use borrow.Author.Tests.{ne-eqb, leb-true}
@@ -9,11 +9,11 @@ use Rattle.theory.specs.Tests.{pick, Says, holds, fails}
 use Rattle.theory.specs.Query.{Bytes}
 use Rattle.theory.specs.Refusals.{passed, length-refused, size-refused, handle-refused}
 use Rattle.theory.specs.Table as theory
-use Rattle.theory.specs.Table.{Answer, refuse, formRefusal, rowRefusal, statesIn}
+use Rattle.theory.specs.Table.{Answer, refuse, formRefusal, readRefusal, statesIn, ask}
 use Rattle.theory.proofs.Reflect.{says-eqb, says-ltb}
 use Rattle.table.specs.Form.{Formed}
 use Rattle.table.proofs.FormLaws.{formed}
-use Rattle.lookup.specs.Answers.{MoveRefusal, AskRefusal}
+use Rattle.lookup.specs.Answers.{MoveRefusal, ReadRefusal}
 
 -- a form that is refused refuses the lookup, whatever it would have answered
 pub form-refuses : (t : Bytes) (a : Answer) {n : ℕ} → n ≡ formRefusal t → (n ≡ passed → ⊥) → refuse n ≡ theory.formed t a
@@ -38,10 +38,6 @@ one-or-two (suc (suc (suc n))) h f = absurd (omega arith)
 pub form-listed : (t : Bytes) → (formRefusal t ≡ passed → ⊥) → (formRefusal t ≡ length-refused) ⊎ (formRefusal t ≡ size-refused)
 form-listed t f = one-or-two (formRefusal t) (form-few t) f
 
--- .. and an ask with one of its numbers
-pub ask-listed : (t : Bytes) {n : ℕ} → n ≡ formRefusal t → (n ≡ passed → ⊥) → AskRefusal n
-ask-listed t {n} e f = rw e (⊎-elim inl (λ k. inr (inl k)) (form-listed t (λ k. f (e ∙ k))))
-
 -- the number of a refusal is not 0, and it is a byte
 pub refusal-some : (n : ℕ) → MoveRefusal n → (0 < n) × (n < 256)
 refusal-some n (inl e) = omega arith
@@ -49,13 +45,36 @@ refusal-some n (inr (inl e)) = omega arith
 refusal-some n (inr (inr (inl e))) = omega arith
 refusal-some n (inr (inr (inr e))) = omega arith
 
--- a row that is not refused is there
-pub row-granted : (t : Bytes) (state : ℕ) → rowRefusal t state ≡ passed → Formed t × (state < statesIn t)
-unfolding rowRefusal
-row-granted t state e = go (says-eqb (formRefusal t) passed) (says-ltb state (statesIn t)) e
-  where
-    go : {a b : Bool} → Says (formRefusal t ≡ passed) a → Says (state < statesIn t) b →
-        pick a (pick b passed handle-refused) (formRefusal t) ≡ passed → Formed t × (state < statesIn t)
-    go (holds f) (holds l) h = (formed t f, l)
-    go (holds f) (fails l) h = absurd (omega arith)
-    go (fails f) s h = absurd (f h)
+module _ (t : Bytes) (state : ℕ) where
+  -- where the read is not refused, the table has the form and the state
+  pub read-granted : readRefusal t state ≡ passed → Formed t × (state < statesIn t)
+  unfolding readRefusal
+  read-granted e = go (says-eqb (formRefusal t) passed) (says-ltb state (statesIn t)) e
+    where
+      go : {a b : Bool} → Says (formRefusal t ≡ passed) a → Says (state < statesIn t) b →
+          pick a (pick b passed handle-refused) (formRefusal t) ≡ passed → Formed t × (state < statesIn t)
+      go (holds f) (holds l) h = (formed t f, l)
+      go (holds f) (fails l) h = absurd (omega arith)
+      go (fails f) s h = absurd (f h)
+
+  module _ {n : ℕ} (e : n ≡ readRefusal t state) (f : n ≡ passed → ⊥) where
+    -- where it is refused, its number is 1, 2 or 10 ..
+    pub read-listed : ReadRefusal n
+    unfolding readRefusal
+    read-listed = go (says-eqb (formRefusal t) passed) (says-ltb state (statesIn t)) e
+      where
+        go : {a b : Bool} → Says (formRefusal t ≡ passed) a → Says (state < statesIn t) b → n ≡ pick a (pick b passed handle-refused) (formRefusal t) → ReadRefusal n
+        go (holds p) (holds l) h = absurd (f h)
+        go (holds p) (fails l) h = inr (inr h)
+        go (fails p) s h = rw h (⊎-elim inl (λ k. inr (inl k)) (form-listed t p))
+
+    -- .. and an ask for whatever order is refused with it
+    pub ask-unread : (i : ℕ) → refuse n ≡ ask t state i
+    unfolding ask readRefusal
+    ask-unread i = go _ (says-eqb (formRefusal t) passed) (says-ltb state (statesIn t)) e
+      where
+        go : (x : Answer) {a b : Bool} → Says (formRefusal t ≡ passed) a → Says (state < statesIn t) b → n ≡ pick a (pick b passed handle-refused) (formRefusal t) →
+            refuse n ≡ pick a (pick b x (refuse handle-refused)) (refuse (formRefusal t))
+        go x (holds p) (holds l) h = absurd (f h)
+        go x (holds p) (fails l) h = ap refuse h
+        go x (fails p) s h = ap refuse h

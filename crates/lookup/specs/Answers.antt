@@ -1,4 +1,4 @@
--- Document 01's number and value for each case of the two answers, the numbers that a refusal may have, and an answer as one number.
+-- Document 01's number and value for each case of the three answers, the numbers that a refusal may have, and an answer as one number.
 use Prim.Native.Nat.{ℕ, _+_, _*_, _/_}
 use mathlib.Core.Path.{_≡_}
 use mathlib.Core.Logic.{_⊎_}
@@ -10,6 +10,8 @@ use Rattle.lookup.specs.declared.Moved.{Moved}
 use Rattle.lookup.specs.declared.Moved.the-variants as moved
 use Rattle.lookup.specs.declared.Asked.{Asked}
 use Rattle.lookup.specs.declared.Asked.the-variants as asked
+use Rattle.lookup.specs.declared.HeldWord.{HeldWord}
+use Rattle.lookup.specs.declared.HeldWord.the-variants as held-word
 
 -- An entry or a take: the state that was moved to, or the refusal.
 abbrev pub answerOf : Moved → Answer
@@ -22,12 +24,17 @@ heldOf asked.Held = grant 1
 heldOf asked.NotHeld = grant 0
 heldOf (asked.Refused n) = refuse n
 
--- An entry or a take is refused with 1, 2, 10 or 11, an ask with 1, 2 or 10. None of these is 0, so that no refusal reads as a grant.
+-- A word: the word, or the refusal.
+abbrev pub wordOf : HeldWord → Answer
+wordOf (held-word.Word w) = grant w
+wordOf (held-word.Refused n) = refuse n
+
+-- An entry or a take is refused with 1, 2, 10 or 11, an ask or a word with 1, 2 or 10. None of these is 0, so that no refusal reads as a grant.
 abbrev pub MoveRefusal : ℕ → Type 0
 MoveRefusal n = (n ≡ length-refused) ⊎ (n ≡ size-refused) ⊎ (n ≡ handle-refused) ⊎ (n ≡ row-refused)
 
-abbrev pub AskRefusal : ℕ → Type 0
-AskRefusal n = (n ≡ length-refused) ⊎ (n ≡ size-refused) ⊎ (n ≡ handle-refused)
+abbrev pub ReadRefusal : ℕ → Type 0
+ReadRefusal n = (n ≡ length-refused) ⊎ (n ≡ size-refused) ⊎ (n ≡ handle-refused)
 
 -- A refusal's number is one of those.
 abbrev pub ListedMove : Moved → Type 0
@@ -37,7 +44,11 @@ ListedMove (moved.Refused n) = MoveRefusal n
 abbrev pub ListedAsk : Asked → Type 0
 ListedAsk asked.Held = Unit
 ListedAsk asked.NotHeld = Unit
-ListedAsk (asked.Refused n) = AskRefusal n
+ListedAsk (asked.Refused n) = ReadRefusal n
+
+abbrev pub ListedWord : HeldWord → Type 0
+ListedWord (held-word.Word w) = Unit
+ListedWord (held-word.Refused n) = ReadRefusal n
 
 -- A lookup's answer as one number: the refusal's number times 65,536 plus the value, which is 0 on refusal.
 abbrev pub refusalUnit : ℕ

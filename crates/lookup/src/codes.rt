@@ -1,9 +1,10 @@
-// An entry and a take as one number: the refusal's number times 65,536 plus the state, which is 0 on refusal. C and Rust get this number, and the enums
+// An entry, a take and a word as one number: the refusal's number times 65,536 plus the state or the word, which is 0 on refusal. C and Rust get this number, and the enums
 // are read from it: an enum made first would be packed into a register and taken apart again.
 ghost use mathlib.Core.Path.{_≡_};
-ghost use Rattle.theory.specs.Table.{refuse, grantState, enter, takeIn};
+ghost use Rattle.theory.specs.Table.{refuse, grantState, enter, takeIn, word};
 ghost use Rattle.table.specs.Form.{Formed};
 ghost use Rattle.lookup.specs.Answers.{answerCode};
+use crate::read_refusal;
 use numbers::limits;
 use numbers::refusals;
 use table::OrderHandle;
@@ -78,4 +79,16 @@ pub fn take(table: &[u8], state: StateNumber, set: SetHandle) -> u32
         return refused(refusal);
     }
     take_formed(table, state, set)
+}
+
+// Hand back a state's word: 1, 2, 1, then 10.
+pub fn word(table: &[u8], state: StateNumber) -> u32
+    ensures { λ r. ⌜ r ≡ answerCode (word (now (table .entry)) (state .0)) ⌝ }
+{
+    let refusal = read_refusal(table, state);
+    if refusal == refusals::PASSED {
+        table::held_word(table, state.0 as usize) as u32
+    } else {
+        refused(refusal)
+    }
 }

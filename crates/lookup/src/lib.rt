@@ -2,11 +2,10 @@
 pub mod codes;
 
 ghost use mathlib.Core.Path.{_≡_};
-ghost use Prim.Native.Nat.{_+_, _/_, _<_, _≤_};
-ghost use Rattle.theory.specs.Limits.{maxProduced, maxTested};
-ghost use Rattle.theory.specs.Table.{statesIn, heldBit, grant, enter, takeIn, ask, row, rowRefusal};
+ghost use Prim.Native.Nat.{_/_, _<_, _≤_};
+ghost use Rattle.theory.specs.Table.{statesIn, enter, takeIn, ask, word, row, readRefusal};
 ghost use Rattle.table.specs.Form.{Formed};
-ghost use Rattle.lookup.specs.Answers.{refusalUnit, MoveRefusal, answerOf, heldOf, ListedMove, ListedAsk, decoded};
+ghost use Rattle.lookup.specs.Answers.{refusalUnit, MoveRefusal, answerOf, heldOf, wordOf, ListedMove, ListedAsk, ListedWord, decoded};
 use numbers::limits;
 use numbers::refusals;
 use table::OrderHandle;
@@ -28,6 +27,12 @@ pub enum Moved {
 pub enum Asked {
     Held,
     NotHeld,
+    Refused(u8),
+}
+
+// A state's held word.
+pub enum HeldWord {
+    Word(u16),
     Refused(u8),
 }
 
@@ -54,38 +59,38 @@ pub fn enter(table: &[u8], order: OrderHandle) -> Moved
     decoded(codes::enter(table, order))
 }
 
-// The held bit of an interesting order in a state.
-fn held(table: &[u8], state: usize, i: usize) -> Asked
-    requires { ⌜ Formed (now table) × (state < statesIn (now table)) × (i < maxProduced + maxTested) ⌝ }
-    ensures { λ r. ⌜ heldOf r ≡ grant (heldBit (now (table .entry)) state i) ⌝ }
+// The refusal where something of a state is read as it is in the table: 1, 2, 1, then 10.
+fn read_refusal(table: &[u8], state: StateNumber) -> u8
+    ensures { λ r. ⌜ r ≡ readRefusal (now (table .entry)) (state .0) ⌝ }
+{
+    let refusal = table::form(table);
+    if refusal != refusals::PASSED {
+        return refusal;
+    }
+    if (state.0 as usize) < table::states(table) {
+        refusals::PASSED
+    } else {
+        refusals::HANDLE
+    }
+}
+
+// An ask in a state of the table: 10 for an order that it does not have, else the order's bit of the state's word.
+fn ask_state(table: &[u8], state: usize, i: usize) -> Asked
+    requires { ⌜ Formed (now table) × (state < statesIn (now table)) ⌝ }
+    ensures { λ r. ⌜ heldOf r ≡ ask (now (table .entry)) state i ⌝ }
     ensures { λ r. ⌜ ListedAsk r ⌝ }
 {
-    let bytes = table::held(table, state);
-    if (bytes[i / 8] >> (i % 8)) % 2 == 1 {
+    if table::produced(table) + table::tested(table) <= i {
+        return Asked::Refused(refusals::HANDLE);
+    }
+    if (table::held_word(table, state) >> i) % 2 == 1 {
         Asked::Held
     } else {
         Asked::NotHeld
     }
 }
 
-// An ask, once the form has passed: 10.
-fn ask_formed(table: &[u8], state: StateNumber, order: OrderHandle) -> Asked
-    requires { ⌜ Formed (now table) ⌝ }
-    ensures { λ r. ⌜ heldOf r ≡ ask (now (table .entry)) (state .0) (order .0) ⌝ }
-    ensures { λ r. ⌜ ListedAsk r ⌝ }
-{
-    let q = state.0 as usize;
-    let i = order.0 as usize;
-    if table::states(table) <= q {
-        return Asked::Refused(refusals::HANDLE);
-    }
-    if table::produced(table) + table::tested(table) <= i {
-        return Asked::Refused(refusals::HANDLE);
-    }
-    held(table, q, i)
-}
-
-// Both lookups of a plan node are methods of its mark, by value.
+// The lookups of a plan node are methods of its mark, by value.
 impl Mark {
     // Take a set: 1, 2, 1, then 10, then 11.
     pub fn take(self, table: &[u8], set: SetHandle) -> Moved
@@ -100,34 +105,31 @@ impl Mark {
         ensures { λ r. ⌜ heldOf r ≡ ask (now (table .entry)) (self .state .0) (order .0) ⌝ }
         ensures { λ r. ⌜ ListedAsk r ⌝ }
     {
-        let refusal = table::form(table);
+        let refusal = read_refusal(table, self.state);
         if refusal != refusals::PASSED {
             return Asked::Refused(refusal);
         }
-        ask_formed(table, self.state, order)
+        ask_state(table, self.state.0 as usize, order.0 as usize)
     }
-}
 
-// The refusal of a row: 1, 2, 1, then 10.
-fn row_refusal(table: &[u8], state: StateNumber) -> u8
-    ensures { λ r. ⌜ r ≡ rowRefusal (now (table .entry)) (state .0) ⌝ }
-{
-    let refusal = table::form(table);
-    if refusal != refusals::PASSED {
-        return refusal;
-    }
-    if (state.0 as usize) < table::states(table) {
-        refusals::PASSED
-    } else {
-        refusals::HANDLE
+    // Hand back the word, as it is in the table: 1, 2, 1, then 10.
+    pub fn word(self, table: &[u8]) -> HeldWord
+        ensures { λ r. ⌜ wordOf r ≡ word (now (table .entry)) (self .state .0) ⌝ }
+        ensures { λ r. ⌜ ListedWord r ⌝ }
+    {
+        let refusal = read_refusal(table, self.state);
+        if refusal != refusals::PASSED {
+            return HeldWord::Refused(refusal);
+        }
+        HeldWord::Word(table::held_word(table, self.state.0 as usize))
     }
 }
 
 // Hand back a state's successor row, as it is in the lent table; an empty part on refusal, whose number is written, 0 for none.
 pub fn row_of<'a, 'b>(table: &'a [u8], state: StateNumber, refusal: &'b mut u8) -> &'a [u8]
-    ensures { λ r. ⌜ (now r ≡ row (now (table .entry)) (state .0)) × (now (refusal .exit) ≡ rowRefusal (now (table .entry)) (state .0)) ⌝ }
+    ensures { λ r. ⌜ (now r ≡ row (now (table .entry)) (state .0)) × (now (refusal .exit) ≡ readRefusal (now (table .entry)) (state .0)) ⌝ }
 {
-    let refused = row_refusal(table, state);
+    let refused = read_refusal(table, state);
     *refusal = refused;
     if refused != refusals::PASSED {
         return &table[..0];

@@ -7,16 +7,16 @@ use lib.ListN.{take, getD}
 use borrow.Author.Tests.{eq-eqb, ne-eqb}
 use Rattle.theory.specs.Refusals.{passed}
 use Rattle.theory.specs.Query.{Bytes}
-use Rattle.theory.specs.Table.{setsIn, successorsBase, rowRefusal}
+use Rattle.theory.specs.Table.{setsIn, successorsBase, readRefusal}
 use Rattle.order_tables.specs.Codes.{refusedCode, rowCode, columnsCode}
 
-pub row-refused : (t : Bytes) (state n : ℕ) → n ≡ rowRefusal t state → (n ≡ passed → ⊥) → refusedCode n ≡ rowCode t state
+pub row-refused : (t : Bytes) (state n : ℕ) → n ≡ readRefusal t state → (n ≡ passed → ⊥) → refusedCode n ≡ rowCode t state
 unfolding rowCode
-row-refused t state n e f = rw (ne-eqb (rowRefusal t state) passed (λ h. f (e ∙ h)), e)
+row-refused t state n e f = rw (ne-eqb (readRefusal t state) passed (λ h. f (e ∙ h)), e)
 
-pub row-granted : (t : Bytes) (state n : ℕ) → n ≡ rowRefusal t state → n ≡ passed → successorsBase t + state * setsIn t ≡ rowCode t state
+pub row-granted : (t : Bytes) (state n : ℕ) → n ≡ readRefusal t state → n ≡ passed → successorsBase t + state * setsIn t ≡ rowCode t state
 unfolding rowCode
-row-granted t state n e h = rw (eq-eqb (rowRefusal t state) passed (sym e ∙ h))
+row-granted t state n e h = rw (eq-eqb (readRefusal t state) passed (sym e ∙ h))
 
 -- The first columns and the one behind them are one more of the first columns; of five, four count.
 pub fix-columns : (n a b c d : ℕ) → columnsCode (take (n + 1) (a ∷ b ∷ c ∷ d ∷ [])) ≡ columnsCode (take n (a ∷ b ∷ c ∷ d ∷ []) ++ (getD (a ∷ b ∷ c ∷ d ∷ []) n 0 ∷ []))

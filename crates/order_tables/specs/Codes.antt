@@ -11,7 +11,7 @@ use Rattle.theory.specs.Query.{Bytes}
 use Rattle.theory.specs.Build.{Outcome, refused, built}
 use Rattle.theory.specs.Listing.{listing}
 use Rattle.query_listing.specs.Listed.{answerOf, listRefusal}
-use Rattle.theory.specs.Table.{refuse, setsIn, successorsBase, rowRefusal}
+use Rattle.theory.specs.Table.{refuse, setsIn, successorsBase, readRefusal}
 use Rattle.lookup.specs.Answers.{refusalUnit, answerCode}
 
 -- A refusal, or none: its number, with the value 0.
@@ -29,7 +29,7 @@ listCode query scratch text = let a = answerOf (listing query) (listRefusal quer
 
 -- A row's answer: its offset in the table, or the refusal.
 unfoldable pub rowCode : Bytes → ℕ → ℕ
-rowCode t state = pick (eqb (rowRefusal t state) passed) (successorsBase t + state * setsIn t) (refusedCode (rowRefusal t state))
+rowCode t state = pick (eqb (readRefusal t state) passed) (successorsBase t + state * setsIn t) (refusedCode (readRefusal t state))
 
 -- Four columns, a byte each, the first lowest, 0 where there is none.
 abbrev pub columnsCode : List ℕ → ℕ

@@ -16,7 +16,7 @@ ghost use mathlib.Core.Path.{_≡_};
 ghost use Prim.Native.Nat.{_+_, _*_, _<_, _≤_, min};
 ghost use Rattle.theory.specs.Limits.{bodyWidth, equalKind, tableSizes};
 ghost use Rattle.theory.specs.Query.{queryRefusal, orderCount, orderAt, dependencyAt};
-ghost use Rattle.theory.specs.Table.{tableRefusal, enter, takeIn, ask};
+ghost use Rattle.theory.specs.Table.{tableRefusal, enter, takeIn, ask, word};
 ghost use Rattle.theory.specs.Build.{outcome, outputAfter, scratchAfter};
 ghost use Rattle.theory.specs.Verification.{verifyRefusal};
 ghost use lib.ListN.{length};
@@ -128,6 +128,14 @@ pub extern "C" fn order_table_ask(table: &[u8], state: u8, order: u8) -> u32
         state: StateNumber(state),
     };
     asked(mark.ask(table, OrderHandle(order)))
+}
+
+// Hand back a state's held word: bit i for interesting order i.
+#[no_mangle]
+pub extern "C" fn order_table_word(table: &[u8], state: u8) -> u32
+    ensures { λ r. ⌜ r ≡ answerCode (word (now (table .entry)) state) ⌝ }
+{
+    codes::word(table, StateNumber(state))
 }
 
 // Where a state's row begins, from sizes that are bytes.

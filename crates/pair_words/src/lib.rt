@@ -7,6 +7,7 @@ ghost use lib.ListN.{length};
 ghost use Rattle.theory.specs.Limits.{maxProduced, maxSets};
 ghost use Rattle.theory.specs.Scratch.{pairAt, wordAt, heldPart};
 ghost use Rattle.byte_rows.specs.Placed.{placed};
+use byte_rows::word;
 use numbers::limits::HELD_WIDTH;
 use numbers::scratch::WORDS_PART;
 
@@ -24,13 +25,6 @@ fn place(sets: usize, p: usize, x: usize) -> usize
     ensures { λ r. ⌜ (r ≡ pairAt sets p x) × (r + 2 ≤ heldPart) ⌝ }
 {
     WORDS_PART + HELD_WIDTH * (p * choices(sets) + x)
-}
-
-// Two bytes as a word, low byte first.
-fn word(low: u8, high: u8) -> u16
-    ensures { λ r. ⌜ r ≡ low + 256 * high ⌝ }
-{
-    low as u16 + 256 * (high as u16)
 }
 
 // The word of produced order p under choice x.

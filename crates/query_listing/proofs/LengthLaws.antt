@@ -10,7 +10,7 @@ use lib.ListN.{length, length-append, length-take}
 use Rattle.theory.specs.Limits.{scratchLength, longestTable}
 use Rattle.theory.specs.Tests.{pick, upFrom, Says, holds, fails}
 use Rattle.theory.specs.Query.{Bytes, readQuery}
-use Rattle.theory.specs.Table.{statesIn, producedIn, setsIn, startIn, rowIn, heldNumber}
+use Rattle.theory.specs.Table.{statesIn, producedIn, setsIn, startIn, rowIn, wordIn}
 use Rattle.theory.specs.Build.{Outcome, refused, built, outcome}
 use Rattle.theory.specs.Listing.{decimalWithin, decimal, refusedLabel, statesLabel, nodesLabel, startLabel, stateLabel, nextLabel, heldLabel, lineEnd, spaced, countsLine, startLine, stateLine, tableListing, listed, listing}
 use Rattle.theory.specs.Lookups.{Faithful}
@@ -111,7 +111,7 @@ module _ {query t : Bytes} {n : ℕ} (b : Built query t n) where
       (joined (number state (omega (arith, form .few-states)))
       (joined (word nextLabel)
       (joined (some-pieces 8 (rowIn t state) (λ x m. spaced-number x (row-below state x h m)) row)
-      (joined (word heldLabel) (joined (decimal-short 5 (heldNumber t state)) (word lineEnd))))))
+      (joined (word heldLabel) (joined (decimal-short 5 (wordIn t state)) (word lineEnd))))))
 
   table-short : Short (tableListing t n) longestListing
   unfolding tableListing

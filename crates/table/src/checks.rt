@@ -7,7 +7,7 @@ ghost use Rattle.theory.specs.Refusals.{firstOf};
 ghost use Rattle.theory.specs.Query.{byteAt};
 ghost use Rattle.theory.specs.Table.{statesIn, tableRefusal, stateRefusal, startsRefusal, successorsRefusal, heldRefusal};
 ghost use Rattle.table.specs.Form.{Formed, runRefusal};
-use crate::rows::held_number;
+use crate::rows::held_word;
 use crate::sizes::form;
 use crate::sizes::produced;
 use crate::sizes::sets;
@@ -74,7 +74,7 @@ fn held_refusal(table: &[u8], state: usize) -> u8
     requires { ⌜ Formed (now table) × (state < statesIn (now table)) ⌝ }
     ensures { λ r. ⌜ r ≡ heldRefusal (now (table .entry)) state ⌝ }
 {
-    if held_number(table, state) < power(produced(table) + tested(table)) {
+    if (held_word(table, state) as usize) < power(produced(table) + tested(table)) {
         refusals::PASSED
     } else {
         refusals::ROW

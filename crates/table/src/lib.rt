@@ -5,8 +5,7 @@ mod rows;
 mod sizes;
 
 pub use checks::check;
-pub use rows::held;
-pub use rows::held_number;
+pub use rows::held_word;
 pub use rows::successors;
 pub use rows::write_sizes;
 pub use sizes::form;

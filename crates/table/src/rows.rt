@@ -5,13 +5,12 @@ ghost use mathlib.Core.List.{[], _∷_};
 ghost use Prim.Native.Nat.{_≤_, _<_};
 ghost use lib.ListN.{length};
 ghost use lib.Seq.{paste};
-ghost use Rattle.theory.specs.Limits.{tableSizes, heldWidth};
-ghost use Rattle.theory.specs.Table.{statesIn, setsIn, rowIn, heldIn, heldNumber};
+ghost use Rattle.theory.specs.Limits.{tableSizes};
+ghost use Rattle.theory.specs.Table.{statesIn, setsIn, rowIn, wordIn};
 ghost use Rattle.table.specs.Form.{Formed};
 use crate::sizes::held_base;
 use crate::sizes::sets;
 use crate::sizes::successors_base;
-use byte_rows::byte;
 use byte_rows::copy;
 use byte_rows::row;
 use numbers::limits;
@@ -24,21 +23,13 @@ pub fn successors(table: &[u8], state: usize) -> &[u8]
     row(table, successors_base(table), sets(table), state)
 }
 
-// A state's two bytes of held bits.
-pub fn held(table: &[u8], state: usize) -> &[u8]
+// A state's held word: its two bytes of held bits as one, low byte first.
+pub fn held_word(table: &[u8], state: usize) -> u16
     requires { ⌜ Formed (now table) × (state < statesIn (now table)) ⌝ }
-    ensures { λ r. ⌜ (now r ≡ heldIn (now (table .entry)) state) × (length (now r) ≡ heldWidth) ⌝ }
+    ensures { λ r. ⌜ r ≡ wordIn (now (table .entry)) state ⌝ }
 {
-    row(table, held_base(table), limits::HELD_WIDTH, state)
-}
-
-// A state's held bits as one number.
-pub fn held_number(table: &[u8], state: usize) -> usize
-    requires { ⌜ Formed (now table) × (state < statesIn (now table)) ⌝ }
-    ensures { λ r. ⌜ r ≡ heldNumber (now (table .entry)) state ⌝ }
-{
-    let bytes = held(table, state);
-    byte(bytes, 0) as usize + 256 * byte(bytes, 1) as usize
+    let bytes = row(table, held_base(table), limits::HELD_WIDTH, state);
+    byte_rows::word(bytes[0], bytes[1])
 }
 
 // Write the sizes Q, P, T, S.

@@ -9,7 +9,7 @@ use mathlib.Core.List.{List, [], _∷_}
 use lib.Arith.{bin-ind}
 use lib.Bits.{bitOr, or-step, or-zero-r}
 use lib.Dec.{eqb}
-use lib.ListN.{length, take, length-take}
+use lib.ListN.{length, take, getD, length-take}
 use lib.Pow.{mod-pow-add, pow-mono}
 use Rattle.theory.specs.Tests.{Says, holds, fails, bitsOf}
 use Rattle.theory.specs.Choices.{Choice, inForce, noSets, withSet}
@@ -50,22 +50,23 @@ bits-cut n x y e =
 pub bits-one : (n x y : ℕ) → x < 2 ^ n → y < 2 ^ n → bitsOf n x ≡ bitsOf n y → x ≡ y
 bits-one n x y h k e = sym (number-bits n x h) ∙ ap number e ∙ number-bits n y k
 
--- Set s is in force where bit s of the choice's number is 1.
-in-force-bit : (n x s : ℕ) → s < n → inForce (bitsOf n x) s ≡ eqb (x / 2 ^ s % 2) 1
-in-force-bit zero x s h = absurd (not-suc-le-zero h)
-in-force-bit (suc n) x zero h = ap (λ y. eqb (y % 2) 1) (sym (div-one x))
-in-force-bit (suc n) x (suc s) h = in-force-bit n (x / 2) s (le-of-suc-le-suc h) ∙ ap (λ y. eqb (y % 2) 1) (div-div-eq-div-mul x 2 (2 ^ s) ∙ ap (λ y. x / y) (sym (pow-succ' 2 s)))
+-- entry i of the lowest n bits of x is bit i of x
+pub bits-entry : (n x i : ℕ) → i < n → getD (bitsOf n x) i false ≡ eqb (x / 2 ^ i % 2) 1
+bits-entry zero x i h = absurd (not-suc-le-zero h)
+bits-entry (suc n) x zero h = ap (λ y. eqb (y % 2) 1) (sym (div-one x))
+bits-entry (suc n) x (suc i) h = bits-entry n (x / 2) i (le-of-suc-le-suc h) ∙ ap (λ y. eqb (y % 2) 1) (div-div-eq-div-mul x 2 (2 ^ i) ∙ ap (λ y. x / y) (sym (pow-succ' 2 i)))
 
 in-force-none : (n x s : ℕ) → n ≤ s → inForce (bitsOf n x) s ≡ false
 in-force-none zero x s h = refl
 in-force-none (suc n) x zero h = absurd (not-suc-le-zero h)
 in-force-none (suc n) x (suc s) h = in-force-none n (x / 2) s (le-of-suc-le-suc h)
 
+-- Set s is in force where bit s of the choice's number is 1.
 pub in-force-any : (n x : ℕ) → x < 2 ^ n → (s : ℕ) → inForce (bitsOf n x) s ≡ eqb (x / 2 ^ s % 2) 1
 in-force-any n x h s = go (says-ltb s n)
   where
     go : {b : Bool} → Says (s < n) b → inForce (bitsOf n x) s ≡ eqb (x / 2 ^ s % 2) 1
-    go (holds l) = in-force-bit n x s l
+    go (holds l) = bits-entry n x s l
     go (fails l) =
         let past : n ≤ s = omega arith in
         in-force-none n x s past ∙ sym (ap (λ y. eqb (y % 2) 1) (div-eq-of-lt (lt-of-lt-of-le h (pow-mono past))))

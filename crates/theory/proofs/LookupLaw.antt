@@ -1,11 +1,11 @@
 -- Whatever table is faithful to a query, every list of lookups that begins with a granted entry gets, lookup for lookup, the plain model's refusals
 -- and answers. Nothing is known of how the table came about: its faithfulness, the row theorem and the definitions of the lookups are all.
-use Prim.Native.Nat.{ℕ, _+_, _/_, _%_, _^_, _<_, _≤_}
+use Prim.Native.Nat.{ℕ, _+_, _/_, _^_, _<_, _≤_}
 use native.Mathlib.Omega.{arith}
 use mathlib.Core.Path.{_≡_, refl, sym, _∙_, ap, subst}
 use mathlib.Core.Bool.{Bool, true, false}
 use mathlib.Core.List.{List, [], _∷_, _++_}
-use lib.Dec.{ltb, eqb}
+use lib.Dec.{ltb}
 use lib.ListN.{length, getD, length-append}
 use borrow.Author.Tests.{lt-ltb, le-ltb}
 use Rattle.theory.specs.Tests.{pick, Says, holds, fails}
@@ -13,12 +13,12 @@ use Rattle.theory.specs.Orders.{Order, Query, interesting, After}
 use Rattle.theory.specs.Rows.{HoldsOfRows}
 use Rattle.theory.specs.Refusals.{handle-refused}
 use Rattle.theory.specs.Machine.{AllBelow, runs}
-use Rattle.theory.specs.Query.{Bytes, byteAt}
-use Rattle.theory.specs.Table.{refuse, grant, enter, takeIn, ask, statesIn, producedIn, testedIn, setsIn, sizesIn, startIn, successorIn, heldIn, heldBit, heldOrders, machineIn, bit}
+use Rattle.theory.specs.Query.{Bytes}
+use Rattle.theory.specs.Table.{refuse, grant, enter, takeIn, ask, statesIn, producedIn, testedIn, setsIn, sizesIn, startIn, successorIn, wordIn, heldBit, heldOrders, machineIn, bit}
 use Rattle.theory.specs.Lookups.{Lookup, entry, taking, asking, run, Answers, done, entry-refused, entry-granted, take-refused, take-granted, ask-refused, ask-granted, Faithful}
 use Rattle.theory.proofs.Reflect.{says-true, says-ltb}
 use Rattle.theory.proofs.RowLaws.{bit-tested}
-use Rattle.theory.proofs.RangeLaws.{entry-of}
+use Rattle.theory.proofs.ChoiceNumbers.{bits-entry}
 use Rattle.theory.proofs.MachineLaws.{below-nil, below-snoc, runs-snoc, Inside, inside-after}
 
 -- a number is below a bound, written in two ways, or it is not
@@ -36,11 +36,7 @@ pick-same false x = refl
 
 -- the held bit of an interesting order, from the list of held orders
 held-listed : (t : Bytes) (state i : ℕ) → i < producedIn t + testedIn t → heldBit t state i ≡ bit (getD (heldOrders t state) i false)
-held-listed t state i h =
-    let n = producedIn t + testedIn t in
-    let here : getD (heldOrders t state) i false ≡ eqb (heldBit t state i) 1 =
-    entry-of (λ k. eqb (heldBit t state k) 1) n i false h in
-    bit-tested (byteAt (heldIn t state) (i / 8) / 2 ^ (i % 8)) ∙ ap bit (sym here)
+held-listed t state i h = bit-tested (wordIn t state / 2 ^ i) ∙ ap bit (sym (bits-entry (producedIn t + testedIn t) (wordIn t state) i h))
 
 module _ {q : Query} {t : Bytes} (f : Faithful q t) where
   -- entering by a produced order grants its start, ..

@@ -1,6 +1,6 @@
 -- Facts over any width and any index: lists read entry by entry, rows of one width put end to end and cut out again, bits as a number, and checks that all pass.
 use Prim.Native.Nat.{ℕ, zero, suc, _+_, _*_, _/_, _%_, _^_, _<_, _≤_}
-use native.Mathlib.Nat.{zero-add, suc-add, add-suc, add-zero, add-comm, zero-mul, mul-zero, suc-mul, mul-assoc, not-suc-le-zero, le-of-suc-le-suc, lt-of-lt-of-le, zero-div, div-div-eq-div-mul, div-add-mod, pow-succ'}
+use native.Mathlib.Nat.{zero-add, suc-add, add-suc, add-zero, add-comm, zero-mul, mul-zero, suc-mul, mul-assoc, not-suc-le-zero, le-of-suc-le-suc, lt-of-lt-of-le, zero-div, div-div-eq-div-mul, pow-succ'}
 use native.Mathlib.Omega.{arith}
 use mathlib.Core.Path.{_≡_, refl, sym, _∙_, ap, ap₂, subst}
 use mathlib.Core.Logic.{⊎-elim}
@@ -12,8 +12,8 @@ use lib.Pow.{pow-mono}
 use lib.Seq.{take-at, drop-append-add, getD-take, getD-drop}
 use Rattle.theory.specs.Tests.{Says, holds, fails, upFrom}
 use Rattle.theory.specs.Refusals.{passed, firstOf}
-use Rattle.theory.specs.Query.{byteAt, rowAt}
-use Rattle.theory.specs.Table.{bit, number, heldBytes}
+use Rattle.theory.specs.Query.{rowAt}
+use Rattle.theory.specs.Table.{bit, number}
 use Rattle.theory.proofs.Reflect.{says-eqb}
 use Rattle.theory.proofs.ListLaws.{member-flatten}
 
@@ -118,16 +118,6 @@ pub number-split : (n : ℕ) (bs : List Bool) → number (take n bs) + 2 ^ n * n
 number-split zero bs = omega arith
 number-split (suc n) [] = rw mul-zero
 number-split (suc n) (b ∷ bs) = rw (pow-succ', mul-assoc) (omega (arith, number-split n bs))
-
--- bit r of held byte q is bit 8 * q + r
-held-place : (bs : List Bool) (q r : ℕ) → q < 2 → r < 8 → byteAt (heldBytes bs) q / 2 ^ r % 2 ≡ bit (getD bs (8 * q + r) false)
-held-place bs zero r q l = rw (zero-add, ← getD-take 8 bs r false l) (number-bit (take 8 bs) r)
-held-place bs (suc zero) r q l = rw (← getD-drop 8) (number-bit (drop 8 bs) r)
-held-place bs (suc (suc k)) r q l = absurd (omega arith)
-
--- the held bytes have each bit at its place
-pub held-bit : (bs : List Bool) (i : ℕ) → i < 16 → byteAt (heldBytes bs) (i / 8) / 2 ^ (i % 8) % 2 ≡ bit (getD bs i false)
-held-bit bs i l = held-place bs (i / 8) (i % 8) (omega arith) (omega arith) ∙ ap (λ k. bit (getD bs k false)) (div-add-mod i 8)
 
 -- where no check refuses, none is the first to
 pub firstOf-passed : (check : ℕ → ℕ) (n : ℕ) → ((i : ℕ) → i < n → check i ≡ passed) → firstOf check n ≡ passed

@@ -2,17 +2,18 @@
 use Prim.Native.Nat.{ℕ, _+_, _*_, _^_, _<_, _≤_}
 use native.Mathlib.Omega.{arith}
 use mathlib.Core.Path.{_≡_, sym, _∙_, ap}
-use mathlib.Core.Bool.{Bool, false}
+use mathlib.Core.Bool.{Bool}
 use mathlib.Core.List.{List, [], _∷_, _++_, map, append-assoc, append-nil, List·Memᴰ, List·Memᴰ·not-nil, Memᴰ·of-map, flatten}
-use lib.Dec.{eqb}
 use lib.ListN.{length, take, drop, getD, length-append, length-take, length-drop, length-map, List·getD-append}
 use lib.Seq.{getD-append-add}
 use borrow.Author.Tests.{eq-eqb, lt-ltb, le-ltb}
+use Rattle.theory.specs.Tests.{bitsOf}
 use Rattle.theory.specs.Refusals.{passed}
 use Rattle.theory.specs.Query.{Bytes, byteAt}
-use Rattle.theory.specs.Table.{Table, Sized, Numbered, bit, number, heldBytes, writeTable, tableLength, startIn, rowIn, successorIn, heldIn, heldBit, heldOrders, readTable, formRefusal, startsRefusal, successorsRefusal, heldRefusal, tableRefusal}
+use Rattle.theory.specs.Table.{Table, Sized, Numbered, number, heldBytes, writeTable, tableLength, startIn, rowIn, successorIn, heldIn, wordIn, heldOrders, readTable, formRefusal, startsRefusal, successorsRefusal, heldRefusal, tableRefusal}
 use Rattle.theory.proofs.ListLaws.{member-getD}
-use Rattle.theory.proofs.RowLaws.{getD-map, entries, all-cons, all-append, all-flatten, flatten-length, row-of-rows, eqb-bit, number-fits, number-split, held-bit, firstOf-passed}
+use Rattle.theory.proofs.RowLaws.{getD-map, entries, all-cons, all-append, all-flatten, flatten-length, row-of-rows, number-fits, number-split, firstOf-passed}
+use Rattle.theory.proofs.ChoiceNumbers.{bits-number}
 
 -- the parts of a written table: the sizes, the rows of held bytes, and all that is behind the starts
 module _ (t : Table) where
@@ -40,10 +41,6 @@ module _ (t : Table) (z : Sized t) where
   unfolding writeTable
   written-length = simp (length-append, successors-length, flatten-length 2 (heldRows t) held-wide, length-map) (omega arith)
 
-  pub written-implied : length (writeTable t) ≡ tableLength (writeTable t)
-  unfolding writeTable
-  written-implied = written-length
-
   -- the starts
   pub written-start : (p : ℕ) → p < t .producedCount → startIn (writeTable t) p ≡ getD (t .starts) p 0
   unfolding writeTable
@@ -63,8 +60,8 @@ module _ (t : Table) (z : Sized t) where
   pub written-successor : (state s : ℕ) → state < t .stateCount → successorIn (writeTable t) state s ≡ getD (getD (t .successors) state []) s 0
   written-successor state s l = rw (written-row state l)
 
-  -- the held orders: a state's two bytes, how many bits they are of, and the bits
-  pub written-held-bytes : (s : ℕ) → s < t .stateCount → heldIn (writeTable t) s ≡ heldBytes (getD (t .held) s [])
+  -- the held orders: a state's two bytes, how many bits they are of, and its word
+  written-held-bytes : (s : ℕ) → s < t .stateCount → heldIn (writeTable t) s ≡ heldBytes (getD (t .held) s [])
   unfolding writeTable
   written-held-bytes s l =
       (rw (append-nil, append-assoc (t .starts)) at
@@ -75,16 +72,13 @@ module _ (t : Table) (z : Sized t) where
   held-count-at : (s : ℕ) → s < t .stateCount → length (getD (t .held) s []) ≡ t .producedCount + t .testedCount
   held-count-at s l = z .held-width _ (member-getD (t .held) s [] (omega arith))
 
-  pub written-held : (state i : ℕ) → state < t .stateCount → i < t .producedCount + t .testedCount
-      → heldBit (writeTable t) state i ≡ bit (getD (getD (t .held) state []) i false)
-  written-held state i l k = rw (written-held-bytes state l) (held-bit (getD (t .held) state []) i (omega arith))
+  written-word : (s : ℕ) → s < t .stateCount → wordIn (writeTable t) s ≡ number (getD (t .held) s [])
+  written-word s l = rw (written-held-bytes s l) (number-split 8 (getD (t .held) s []))
 
   -- reading the bytes gives the table that they were written from
   pub held-back : (s : ℕ) → s < t .stateCount → heldOrders (writeTable t) s ≡ getD (t .held) s []
   unfolding writeTable
-  held-back s l =
-      entries _ (getD (t .held) s []) false (t .producedCount + t .testedCount) (held-count-at s l)
-      (λ i k. ap (λ b. eqb b 1) (written-held s i l k) ∙ eqb-bit (getD (getD (t .held) s []) i false))
+  held-back s l = ap (bitsOf (t .producedCount + t .testedCount)) (written-word s l) ∙ bits-number (t .producedCount + t .testedCount) (getD (t .held) s []) (held-count-at s l)
 
   pub round-trip : readTable (writeTable t) ≡ t
   unfolding writeTable readTable
@@ -113,7 +107,7 @@ module _ (t : Table) (z : Sized t) where
   held-passed s l =
       let h : List Bool = getD (t .held) s [] in
       let n : ℕ = t .producedCount + t .testedCount in
-      rw (written-held-bytes s l, number-split 8 h, lt-ltb (number h) (2 ^ n) (number-fits h n (omega (arith, held-count-at s l))))
+      rw (written-word s l, lt-ltb (number h) (2 ^ n) (number-fits h n (omega (arith, held-count-at s l))))
 
   -- each byte of the held rows has 8 bits
   held-small : (b : ℕ) → List·Memᴰ b (flatten (heldRows t)) → b < 256

@@ -5,7 +5,6 @@ use mathlib.Core.Path.{_≡_, refl, sym, _∙_, ap, ap₂, subst}
 use mathlib.Core.Logic.{_≢_}
 use mathlib.Core.Bool.{Bool, true, false}
 use mathlib.Core.List.{List, [], _∷_}
-use lib.Dec.{eqb}
 use lib.ListN.{length, getD, length-append}
 use lib.Seq.{ext-getD}
 use Rattle.theory.specs.Tests.{pick, Says, holds, fails}
@@ -15,12 +14,12 @@ use Rattle.theory.specs.Machine.{Sizes, AllBelow, runs, SameAnswers, agr
 use Rattle.theory.specs.Construction.{sizesOf}
 use Rattle.theory.specs.Refusals.{passed, space-refused, mismatch-refused, answer-refused, firstRefusal}
 use Rattle.theory.specs.Query.{Bytes, readQuery, queryRefusal}
-use Rattle.theory.specs.Table.{Table, numbersOf, statesIn, producedIn, testedIn, setsIn, sizesIn, heldBit, machineIn, tableRefusal}
+use Rattle.theory.specs.Table.{Table, numbersOf, statesIn, producedIn, testedIn, setsIn, sizesIn, wordIn, machineIn, tableRefusal}
 use Rattle.theory.specs.Build.{Constructed, too-many, table, construct, Constructs}
 use Rattle.theory.specs.Lookups.{Faithful}
 use Rattle.theory.specs.Verification.{SameSizes, sameSizes, mismatchRefusal, answerRefusal, suppliedRefusal, verifiedWith, verifyRefusal, WrongAnswer, Buildable, Verdict, query-refused, scratch-short, not-constructed, form-refused, sizes-differ, answer-wrong, accepted}
 use Rattle.theory.proofs.Reflect.{says-one, says-true, says-as, says-and, says-eqb, says-ltb, decides-number, decides-bool}
-use Rattle.theory.proofs.RangeLaws.{entry-count}
+use Rattle.theory.proofs.ChoiceNumbers.{bits-length}
 use Rattle.theory.proofs.MachineLaws.{Inside, inside-after}
 use Rattle.theory.proofs.PairLaws.{agree-says, agree-parts, pairs-few}
 use Rattle.theory.proofs.MachineTable.{Limited, numbers-inside, numbers-wide}
@@ -66,7 +65,7 @@ module _ {q : Query} {ours : Table} {n : ℕ} (limits : Limited (sizesOf q)) (d 
 
   their-width : (state : ℕ) → length (machineIn t .held state) ≡ length (interesting q)
   their-width state =
-      entry-count (λ i. eqb (heldBit t state i) 1) 0 (producedIn t + testedIn t)
+      bits-length (producedIn t + testedIn t) (wordIn t state)
       ∙ ap (λ (z : Sizes). z .produced + z .tested) (sizes-are q t sizes) ∙ sym (length-append (q .produced) (q .tested))
 
   -- The table is faithful exactly when it answers as the query's own does.

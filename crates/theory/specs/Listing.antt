@@ -5,7 +5,7 @@ use lib.Dec.{ltb}
 use Rattle.theory.specs.Tests.{pick, upFrom}
 use Rattle.theory.specs.Limits.{scratchLength, longestTable}
 use Rattle.theory.specs.Query.{Bytes}
-use Rattle.theory.specs.Table.{statesIn, producedIn, startIn, rowIn, heldNumber}
+use Rattle.theory.specs.Table.{statesIn, producedIn, startIn, rowIn, wordIn}
 use Rattle.theory.specs.Build.{Outcome, refused, built, outcome}
 
 -- A number in decimal, of at most k digits. Five are enough: the largest that is printed is 65,535.
@@ -56,7 +56,7 @@ startLine t p = startLabel ++ (decimal p ++ (spaced (startIn t p) ++ lineEnd))
 -- A state with its successor per set and its held bits.
 unfoldable pub stateLine : Bytes → ℕ → Bytes
 stateLine t state =
-    stateLabel ++ (decimal state ++ (nextLabel ++ (flatten (map spaced (rowIn t state)) ++ (heldLabel ++ (decimal (heldNumber t state) ++ lineEnd)))))
+    stateLabel ++ (decimal state ++ (nextLabel ++ (flatten (map spaced (rowIn t state)) ++ (heldLabel ++ (decimal (wordIn t state) ++ lineEnd)))))
 
 -- A table's listing, with the count of nodes.
 unfoldable pub tableListing : Bytes → ℕ → Bytes

@@ -5,7 +5,7 @@ use mathlib.Core.Path.{_≡_}
 use mathlib.Core.List.{List, [], _∷_, _++_, map, List·Memᴰ, flatten}
 use lib.Dec.{eqb, ltb}
 use lib.ListN.{length, take, drop, getD}
-use Rattle.theory.specs.Tests.{pick, position, upFrom}
+use Rattle.theory.specs.Tests.{pick, position, upFrom, bitsOf}
 use Rattle.theory.specs.Limits.{maxStates, maxProduced, maxTested, maxSets, tableSizes, heldWidth}
 use Rattle.theory.specs.Machine.{Sizes, Machine, numberedWithin}
 use Rattle.theory.specs.Refusals.{passed, length-refused, size-refused, handle-refused, row-refused, firstRefusal, firstOf}
@@ -119,19 +119,19 @@ rowIn t state = rowAt (successorsBase t) (setsIn t) state t
 abbrev pub successorIn : Bytes → ℕ → ℕ → ℕ
 successorIn t state s = byteAt (rowIn t state) s
 
--- A state's held bytes, the bits as one number, and the bit for interesting order i.
+-- A state's held bytes; both as one word, the low byte plus 256 times the high one; and the word's bit for interesting order i.
 abbrev pub heldIn : Bytes → ℕ → Bytes
 heldIn t state = rowAt (heldBase t) heldWidth state t
 
-abbrev pub heldNumber : Bytes → ℕ → ℕ
-heldNumber t state = byteAt (heldIn t state) 0 + 256 * byteAt (heldIn t state) 1
+abbrev pub wordIn : Bytes → ℕ → ℕ
+wordIn t state = byteAt (heldIn t state) 0 + 256 * byteAt (heldIn t state) 1
 
 abbrev pub heldBit : Bytes → ℕ → ℕ → ℕ
-heldBit t state i = byteAt (heldIn t state) (i / 8) / 2 ^ (i % 8) % 2
+heldBit t state i = wordIn t state / 2 ^ i % 2
 
--- The held orders of a state.
+-- The held orders of a state: the lowest P + T bits of its word.
 abbrev pub heldOrders : Bytes → ℕ → List Bool
-heldOrders t state = map (λ i. eqb (heldBit t state i) 1) (upFrom 0 (producedIn t + testedIn t))
+heldOrders t state = bitsOf (producedIn t + testedIn t) (wordIn t state)
 
 -- A table's bytes as a machine: its states are their numbers.
 abbrev pub machineIn : Bytes → Machine ℕ
@@ -171,14 +171,14 @@ successorsRefusal t = firstOf (λ i. stateRefusal t (byteAt t (successorsBase t 
 
 unfoldable pub heldRefusal : Bytes → ℕ → ℕ
 heldRefusal t state =
-    pick (ltb (heldNumber t state) (2 ^ (producedIn t + testedIn t))) passed row-refused
+    pick (ltb (wordIn t state) (2 ^ (producedIn t + testedIn t))) passed row-refused
 
 -- The table check: 1, 2, 1, 11.
 unfoldable pub tableRefusal : Bytes → ℕ
 tableRefusal t =
     firstRefusal (formRefusal t) (firstRefusal (startsRefusal t) (firstRefusal (successorsRefusal t) (firstOf (heldRefusal t) (statesIn t))))
 
--- What a lookup answers: its refusal, and a state number or a held bit, which is 0 on refusal.
+-- What a lookup answers: its refusal, and a state number, a held bit or a held word, which is 0 on refusal.
 pub record Answer : Type 0 where
   pub refusal : ℕ
   pub value : ℕ
@@ -206,14 +206,19 @@ unfoldable pub takeIn : Bytes → ℕ → ℕ → Answer
 takeIn t state s =
     formed t (pick (ltb state (statesIn t)) (pick (ltb s (setsIn t)) (grantState t (successorIn t state s)) (refuse handle-refused)) (refuse handle-refused))
 
--- Ask whether an interesting order is held in a state: 1, 2, 1, then 10, never 11.
+-- Ask whether an interesting order is held in a state: 1, 2, 1, then 10, never 11. The answer is the order's bit of the state's word.
 unfoldable pub ask : Bytes → ℕ → ℕ → Answer
 ask t state i =
     formed t (pick (ltb state (statesIn t)) (pick (ltb i (producedIn t + testedIn t)) (grant (heldBit t state i)) (refuse handle-refused)) (refuse handle-refused))
 
--- Hand back a state's successor row, as it is in the table: 1, 2, 1, then 10, never 11. The row is empty on refusal.
-unfoldable pub rowRefusal : Bytes → ℕ → ℕ
-rowRefusal t state = firstRefusal (formRefusal t) (pick (ltb state (statesIn t)) passed handle-refused)
+-- The refusal where a state's word or its successor row is read: 1, 2, 1, then 10, never 11.
+unfoldable pub readRefusal : Bytes → ℕ → ℕ
+readRefusal t state = firstRefusal (formRefusal t) (pick (ltb state (statesIn t)) passed handle-refused)
 
+-- Hand back a state's word, as it is in the table.
+unfoldable pub word : Bytes → ℕ → Answer
+word t state = pick (eqb (readRefusal t state) passed) (grant (wordIn t state)) (refuse (readRefusal t state))
+
+-- Hand back a state's successor row, as it is in the table. The row is empty on refusal.
 unfoldable pub row : Bytes → ℕ → Bytes
-row t state = pick (eqb (rowRefusal t state) passed) (rowIn t state) []
+row t state = pick (eqb (readRefusal t state) passed) (rowIn t state) []

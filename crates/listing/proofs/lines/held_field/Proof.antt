@@ -10,8 +10,11 @@ slice-aggregate-word c = search needs
 word-requires : tie.Need-word-requires
 word-requires c κs = search needs
 
-held-number-requires : tie.Need-held-number-requires
-held-number-requires c κs = search needs
+held-word-requires : tie.Need-held-word-requires
+held-word-requires c κs = search needs
+
+cast-number-of : tie.Need-cast-number-of
+cast-number-of c = search needs
 
 number-of-requires : tie.Need-number-of-requires
 number-of-requires c κs = search needs
@@ -29,7 +32,7 @@ returns : tie.Need-returns
 returns c =
     let end = c .before .before in
     let number = end .before .before .before .before .before in
-    rw (← number .before .held-number .ensures) (wrote-on (number .before .before .before .before .before .word .ensures) (wrote-on (number .number-of .ensures) (end .word2 .ensures)))
+    rw (← number .before .held-word .ensures) (wrote-on (number .before .before .before .before .before .word .ensures) (wrote-on (number .number-of .ensures) (end .word2 .ensures)))
 
 pub held-field-spec : {M : Type 1} → statement M
 held-field-spec =
@@ -37,7 +40,8 @@ held-field-spec =
     (tie.spec
     slice-aggregate-word
     word-requires
-    held-number-requires
+    held-word-requires
+    cast-number-of
     number-of-requires
     slice-aggregate-word-2
     word-requires-2
