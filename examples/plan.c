@@ -1,5 +1,5 @@
 /* A planner's use of order tables: build the table of a query once, then carry one state per plan node. Sets stay in force, so they may be taken in
- * any order.
+ * any order. One word says all that a state holds; an ask is for one order.
  * The query is that of examples/first.query: columns a, b, c; orders (a) and (b,a) can be produced, (a,b) and (c) are only looked for;
  * set 0 brings a -> b and set 1 brings b = c. */
 #include <stdio.h>
@@ -21,11 +21,12 @@ static const char *const orders[4] = {"(a)", "(b,a)", "(a,b)", "(c)"};
 static uint8_t scratch[ORDER_TABLE_SCRATCH];
 static uint8_t output[ORDER_TABLE_LONGEST_TABLE];
 
-/* Prints which interesting orders a state holds. */
+/* Prints which interesting orders a state holds: one word has them all. */
 static void print_held(const char *what, size_t length, uint8_t state) {
+    uint32_t word = order_table_value(order_table_word(output, length, state));
     printf("%s: state %u holds", what, state);
     for (uint8_t order = 0; order < 4; order++) {
-        if (order_table_ask(output, length, state, order) == 1) {
+        if ((word >> order) & 1) {
             printf(" %s", orders[order]);
         }
     }
@@ -45,6 +46,8 @@ int main(void) {
     print_held("scan in (a)", length, scan);
     uint8_t selected = (uint8_t)order_table_value(order_table_take(output, length, scan, 0));
     print_held("after set 0", length, selected);
+    const char *sort = order_table_ask(output, length, selected, 2) == 1 ? "no sort" : "a sort";
+    printf("a merge join by (a,b) needs %s\n", sort);
     uint8_t joined = (uint8_t)order_table_value(order_table_take(output, length, selected, 1));
     print_held("after set 1", length, joined);
     uint8_t joined_first = (uint8_t)order_table_value(order_table_take(output, length, scan, 1));

@@ -108,6 +108,11 @@ uint32_t order_table_take(const uint8_t *table, size_t table_length, uint8_t sta
 /* Whether a state holds an interesting order: 1 held, 0 not held. Refusals: 1, 2, 10. */
 uint32_t order_table_ask(const uint8_t *table, size_t table_length, uint8_t state, uint8_t order);
 
+/* A state's held bits as one word of 16 bits: bit i, worth 2 to the i, is interesting order i, 1 held, 0 not held. So one call answers for all
+ * interesting orders of a state. An ask that is not refused says held exactly when its order's bit is 1. In a table that passes order_table_check
+ * the bits past P + T are 0; of other tables the word comes as the table has it. On refusal it is 0. Refusals: 1, 2, 10. */
+uint32_t order_table_word(const uint8_t *table, size_t table_length, uint8_t state);
+
 /* Where in the table a state's row of successors begins, one byte for each set. Refusals: 1, 2, 10. */
 uint32_t order_table_row(const uint8_t *table, size_t table_length, uint8_t state);
 

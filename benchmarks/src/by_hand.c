@@ -1,4 +1,4 @@
-/* Enter, take and ask written by hand, with the checks of document 01: 1, 2, 1, then 10, then 11 for a start or successor.
+/* Enter, take, ask and word written by hand, with the checks of document 01: 1, 2, 1, then 10, then 11 for a start or successor.
  * A result is a refusal's number times 65,536 plus a value. */
 #include <stddef.h>
 #include <stdint.h>
@@ -18,6 +18,12 @@ static inline uint32_t form(const uint8_t *table, size_t length) {
         return REFUSED(1);
     }
     return 0;
+}
+
+/* The held word of a state that is in the table: the low held byte plus 256 times the high one. */
+static inline uint32_t held(const uint8_t *table, uint8_t state) {
+    size_t at = (size_t)4 + table[1] + (size_t)table[0] * table[3] + (size_t)2 * state;
+    return table[at] | (uint32_t)table[at + 1] << 8;
 }
 
 uint32_t by_hand_enter(const uint8_t *table, size_t length, uint8_t produced) {
@@ -52,6 +58,16 @@ uint32_t by_hand_ask(const uint8_t *table, size_t length, uint8_t state, uint8_t
     if (state >= table[0] || order >= table[1] + table[2]) {
         return REFUSED(10);
     }
-    size_t held = (size_t)4 + table[1] + (size_t)table[0] * table[3] + (size_t)2 * state;
-    return (table[held + order / 8] >> order % 8) & 1;
+    return (held(table, state) >> order) & 1;
+}
+
+uint32_t by_hand_word(const uint8_t *table, size_t length, uint8_t state) {
+    uint32_t refused = form(table, length);
+    if (refused != 0) {
+        return refused;
+    }
+    if (state >= table[0]) {
+        return REFUSED(10);
+    }
+    return held(table, state);
 }

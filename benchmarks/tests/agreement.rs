@@ -25,6 +25,7 @@ fn lookups_by_hand() {
                     proved::table_take(&table, a, b)
                 );
                 assert_eq!(by_hand::ask(&table, a, b), proved::table_ask(&table, a, b));
+                assert_eq!(by_hand::word(&table, a), proved::table_word(&table, a));
             }
         }
     }

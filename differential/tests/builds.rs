@@ -1,7 +1,8 @@
 //! Building and listing: the proved library and the second implementation give
 //! the same tables, the same listings and the same refusals, and leave the lent
 //! buffers as document 01 says. The built tables are the smallest. Lists of lookups
-//! on them are answered as the plain model answers them.
+//! on them are answered as the plain model answers them, and the words of their
+//! states have its answers as bits.
 
 use differential::lent::Lent;
 use differential::replay::{lookup_bytes, replayed_answers};
@@ -332,6 +333,12 @@ fn the_same_sets_in_any_order_and_however_often() {
                 let row = Library::follow(table, produced, &sets);
                 let answers = model_answers(&query, &samples::asks_after(&query, produced, &sets));
                 let answers = &answers[1 + sets.len()..];
+                let word = row.map(|state| proved::table_word(table, state));
+                assert_eq!(
+                    word,
+                    Ok(bits(answers)),
+                    "{sets:?} on the table of {query:?}"
+                );
                 held += answers.iter().filter(|&&a| a == Answer::Held(true)).count();
                 not_held += answers
                     .iter()
@@ -372,6 +379,12 @@ fn a_refused_replay_keeps_the_lookups() {
         assert_eq!(code, refusal << 16);
         assert!(lookups.is_unchanged() && output == [7; LONGEST_TABLE]);
     }
+}
+
+/// The answers to asks as one number, bit i for answer i.
+fn bits(answers: &[Answer]) -> u32 {
+    let bits = answers.iter().map(|&a| u32::from(a == Answer::Held(true)));
+    bits.rev().fold(0, |number, bit| number << 1 | bit)
 }
 
 fn kind(answer: Answer) -> usize {

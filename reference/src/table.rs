@@ -55,12 +55,9 @@ impl Table {
     /// held bit past P+T is set.
     pub fn read(table: &[u8]) -> Result<Self, u8> {
         let layout = Layout::read(table)?;
-        let states = (0..layout.states).map(|state| {
-            let held = &table[layout.held_at(state)..][..HELD_BYTES];
-            State {
-                successors: table[layout.row_at(state)..][..layout.sets].to_vec(),
-                held: u16::from_le_bytes([held[0], held[1]]),
-            }
+        let states = (0..layout.states).map(|state| State {
+            successors: table[layout.row_at(state)..][..layout.sets].to_vec(),
+            held: layout.held(table, state),
         });
         let read = Self {
             tested: layout.tested as u8,
@@ -134,6 +131,14 @@ pub fn ask(table: &[u8], state: u8, order: u8) -> Result<bool, u8> {
     Ok(byte >> (order % 8) & 1 == 1)
 }
 
+/// A state's held bits as one word, as they are in the table: the low byte plus 256
+/// times the high one. Refuses with 1, 2 or 10.
+pub fn word(table: &[u8], state: u8) -> Result<u16, u8> {
+    let layout = Layout::read(table)?;
+    let state = handle(state, layout.states)?;
+    Ok(layout.held(table, state))
+}
+
 /// A state's successor row, as it is in the table. Refuses with 1, 2 or 10.
 pub fn row(table: &[u8], state: u8) -> Result<&[u8], u8> {
     let layout = Layout::read(table)?;
@@ -200,6 +205,12 @@ impl Layout {
     /// table ends.
     fn held_at(&self, state: usize) -> usize {
         self.row_at(self.states) + state * HELD_BYTES
+    }
+
+    /// A state's held bits, the low byte first.
+    fn held(&self, table: &[u8], state: usize) -> u16 {
+        let held = &table[self.held_at(state)..][..HELD_BYTES];
+        u16::from_le_bytes([held[0], held[1]])
     }
 
     /// A state number read from the table, or 11 when there is no such state.

@@ -199,6 +199,12 @@ fn the_benchmarks_have_the_counts() {
     let verified: Vec<_> = rows(verified).map(|row| row[..2].to_vec()).collect();
     let names_and_rows = builds.iter().map(|row| vec![row[0], row[3]]);
     assert_eq!(verified, names_and_rows.collect::<Vec<_>>());
+    let all_orders: Vec<_> = rows(section(&benchmarks, "All orders of a state, ns")).collect();
+    assert_eq!(all_orders.len(), 3);
+    for row in &all_orders {
+        let (_, table) = constructed(&trials::named(row[0]).query).expect("a table");
+        assert_eq!(row[1], table.interesting().to_string(), "{row:?}");
+    }
     let trial = trials::named("six_joins");
     let [nodes, _, rows_written] = counts(&trial);
     let length = trial.table_length.expect("the length is said").to_string();

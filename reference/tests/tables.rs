@@ -5,8 +5,8 @@ use std::sync::LazyLock;
 
 use reference::builder::build_table;
 use reference::random::Random;
-use reference::samples;
-use reference::table::{ask, check, enter, row, take, Table};
+use reference::samples::{self, Shape};
+use reference::table::{ask, check, enter, row, take, word, Table};
 use reference::{trials, Dependency, Implementation, Query, Reference};
 
 /// The example's table, and places in it.
@@ -30,6 +30,7 @@ fn form_refusal(table: &[u8]) -> Option<u8> {
         enter(table, 255).err(),
         take(table, 255, 255).err(),
         ask(table, 255, 255).err(),
+        word(table, 255).err(),
         row(table, 255).err(),
     ];
     let form = refusals[0].filter(|&number| number != 10);
@@ -58,6 +59,7 @@ fn the_example_table_passes_and_answers_as_its_listing_says() {
                     let bit = held >> order & 1 == 1;
                     assert_eq!(ask(&EXAMPLE, state, order), Ok(bit));
                 }
+                assert_eq!(word(&EXAMPLE, state), Ok(held.into()));
             }
             _ => assert!(line.starts_with("states ")),
         }
@@ -89,6 +91,7 @@ fn what_is_read_of_a_table_is_what_lookups_give_and_is_written_back() {
         }
         for (number, state) in (0..).zip(&table.states) {
             assert_eq!(row(&bytes, number), Ok(&state.successors[..]));
+            assert_eq!(word(&bytes, number), Ok(state.held));
             for order in 0..table.interesting() {
                 let held = state.held >> order & 1 == 1;
                 assert_eq!(ask(&bytes, number, order as u8), Ok(held));
@@ -187,6 +190,7 @@ fn held_bits_may_be_as_many_as_interesting_orders() {
                     false => Err(11),
                 };
                 assert_eq!(check(&table), expected);
+                assert_eq!(word(&table, 0), Ok(1 << bit));
                 for order in 0..produced + tested {
                     assert_eq!(ask(&table, 0, order), Ok(order == bit));
                 }
@@ -205,6 +209,7 @@ fn handles_not_in_the_table_give_10() {
         assert_eq!(take(&EXAMPLE, 0, handle).err(), expected(2));
         assert_eq!(ask(&EXAMPLE, handle, 0).err(), expected(STATES));
         assert_eq!(ask(&EXAMPLE, 0, handle).err(), expected(4));
+        assert_eq!(word(&EXAMPLE, handle).err(), expected(STATES));
         assert_eq!(row(&EXAMPLE, handle).err(), expected(STATES));
     }
 }
@@ -215,6 +220,7 @@ fn a_table_without_sets_has_empty_rows_and_no_takes() {
     assert_eq!(check(&table), Ok(()));
     assert_eq!(row(&table, 0), Ok(&[][..]));
     assert_eq!(row(&table, 1), Err(10));
+    assert_eq!(word(&table, 0), Ok(1));
     assert_eq!(take(&table, 0, 0), Err(10));
 }
 
@@ -234,6 +240,7 @@ fn an_entry_gives_11_for_the_start_it_reads_alone() {
             for state in 0..STATES {
                 assert_eq!(take(&table, state, 1), take(&EXAMPLE, state, 1));
                 assert_eq!(ask(&table, state, 2), ask(&EXAMPLE, state, 2));
+                assert_eq!(word(&table, state), word(&EXAMPLE, state));
                 assert_eq!(row(&table, state), row(&EXAMPLE, state));
             }
         }
@@ -256,6 +263,7 @@ fn a_take_gives_11_for_the_successor_it_reads_alone() {
                 }
                 assert_eq!(take(&table, state, 2), Err(10));
                 assert_eq!(ask(&table, state, 0), ask(&EXAMPLE, state, 0));
+                assert_eq!(word(&table, state), word(&EXAMPLE, state));
                 let from = 6 + 2 * usize::from(state);
                 assert_eq!(row(&table, state), Ok(&table[from..from + 2]));
             }
@@ -265,7 +273,7 @@ fn a_take_gives_11_for_the_successor_it_reads_alone() {
 }
 
 #[test]
-fn bits_past_the_interesting_orders_are_no_matter_to_lookups() {
+fn bits_past_the_interesting_orders_are_in_the_word_and_no_matter_to_other_lookups() {
     let mut table = EXAMPLE.clone();
     for place in HELD {
         table[place] |= past_interesting(place);
@@ -276,6 +284,8 @@ fn bits_past_the_interesting_orders_are_no_matter_to_lookups() {
             assert_eq!(ask(&table, state, order), ask(&EXAMPLE, state, order));
         }
         assert_eq!(ask(&table, state, 4), Err(10));
+        let held = word(&EXAMPLE, state).expect("granted");
+        assert_eq!(word(&table, state), Ok(held | 0xfff0));
         assert_eq!(row(&table, state), row(&EXAMPLE, state));
         assert_eq!(take(&table, state, 0), take(&EXAMPLE, state, 0));
     }
@@ -302,10 +312,117 @@ fn all_sixteen_held_bits_are_used() {
             assert_eq!(ask(&table, state, order), Ok(true));
         }
         assert_eq!(ask(&table, state, 16), Err(10));
+        assert_eq!(word(&table, state), Ok(u16::MAX));
     }
     let state = enter(&table, 7).expect("granted");
     let held: Vec<u8> = (0..16)
         .filter(|&order| ask(&table, state, order) == Ok(true))
         .collect();
     assert_eq!(held, [6, 7]);
+    assert_eq!(word(&table, state), Ok(1 << 6 | 1 << 7));
+}
+
+#[test]
+fn every_word_is_the_low_byte_plus_256_times_the_high_one() {
+    let mut table = [1, 8, 8, 0, 0, 0, 0, 0, 0, 0, 0, 0, 0, 0];
+    for high in 0..=255 {
+        for low in 0..=255 {
+            table[12..].copy_from_slice(&[low, high]);
+            let expected = u16::from(low) + 256 * u16::from(high);
+            assert_eq!(word(&table, 0), Ok(expected));
+            for order in 0..16 {
+                let bit = expected >> order & 1 == 1;
+                assert_eq!(ask(&table, 0, order), Ok(bit));
+            }
+        }
+    }
+}
+
+#[test]
+fn the_words_of_a_table_with_one_byte_changed() {
+    for place in 0..HELD.end {
+        for byte in 0..=255 {
+            let table = table_with(place, byte);
+            for state in 0..=255 {
+                let expected = match expected_check(place, byte) {
+                    Err(number) if number != 11 => Err(number),
+                    _ if state >= STATES => Err(10),
+                    _ => {
+                        let held = &table[HELD][2 * usize::from(state)..];
+                        Ok(u16::from(held[0]) + 256 * u16::from(held[1]))
+                    }
+                };
+                assert_eq!(word(&table, state), expected);
+            }
+        }
+    }
+}
+
+/// What the asks and words of some tables were.
+#[derive(Debug, Default)]
+struct AsksAndWords {
+    held: usize,
+    held_in_the_high_byte: usize,
+    not_held: usize,
+    orders_refused: usize,
+    bits_past: usize,
+    words_refused: [usize; 11],
+}
+
+impl AsksAndWords {
+    /// Compares every ask in a table with its order's bit in the state's word.
+    fn compare(&mut self, table: &[u8]) {
+        for state in 0..=255 {
+            match word(table, state) {
+                Ok(word) => self.compare_bits(table, state, word),
+                Err(number) => {
+                    let refused = |order| ask(table, state, order) == Err(number);
+                    assert!((0..=255).all(refused), "{state} {table:?}");
+                    self.words_refused[usize::from(number)] += 1;
+                }
+            }
+        }
+    }
+
+    fn compare_bits(&mut self, table: &[u8], state: u8, word: u16) {
+        let orders = table[1] + table[2];
+        for order in 0..=255 {
+            let asked = ask(table, state, order);
+            if order >= orders {
+                assert_eq!(asked, Err(10), "{state} {order} {table:?}");
+                self.orders_refused += 1;
+                continue;
+            }
+            let bit = word >> order & 1 == 1;
+            assert_eq!(asked, Ok(bit), "{state} {order} {table:?}");
+            self.held += usize::from(bit);
+            self.held_in_the_high_byte += usize::from(bit && order >= 8);
+            self.not_held += usize::from(!bit);
+        }
+        self.bits_past += usize::from(u32::from(word) >> orders != 0);
+    }
+}
+
+#[test]
+fn an_ask_that_is_not_refused_says_held_exactly_when_its_bit_of_the_word_is_1() {
+    let mut random = Random::new(52);
+    let [mut built, mut damaged, mut any] = [(); 3].map(|()| AsksAndWords::default());
+    for _ in 0..300 {
+        let (_, table) = samples::query_with_table(&mut random, Shape::FULL);
+        built.compare(&table);
+        damaged.compare(&samples::damaged(&mut random, &table));
+        any.compare(&samples::any_table(&mut random));
+    }
+    for compared in [&built, &damaged, &any] {
+        let enough = compared.held > 2000
+            && compared.held_in_the_high_byte > 100
+            && compared.not_held > 2000
+            && compared.orders_refused > 2000
+            && compared.words_refused[10] > 2000;
+        assert!(enough, "{compared:?}");
+    }
+    assert_eq!(built.bits_past, 0);
+    assert!(damaged.bits_past > 10 && any.bits_past > 100);
+    let refused = damaged.words_refused;
+    assert!(refused[1] > 2000 && refused[2] > 2000, "{refused:?}");
 }

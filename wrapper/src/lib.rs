@@ -50,6 +50,19 @@ pub struct SetHandle(pub u8);
 #[derive(Clone, Copy, Debug, PartialEq, Eq, Hash, PartialOrd, Ord)]
 pub struct StateNumber(pub u8);
 
+/// A state's held bits as one word: bit i is interesting order i.
+#[derive(Clone, Copy, Debug, PartialEq, Eq, Hash, PartialOrd, Ord)]
+pub struct HeldWord(pub u16);
+
+impl HeldWord {
+    /// Whether an interesting order's bit is 1. From order 16 on there is none, and
+    /// the order is not held.
+    pub fn holds(self, order: OrderHandle) -> bool {
+        let from_its_bit = self.0.checked_shr(order.0.into());
+        from_its_bit.is_some_and(|bits| bits & 1 == 1)
+    }
+}
+
 /// Builds the table of a query into the output's first bytes, and gives its
 /// length. It is the smallest table: two states of the construction share a row
 /// exactly when no order lookup after any run of sets tells them apart, and
@@ -128,6 +141,14 @@ impl<'a> Table<'a> {
     /// Whether a state holds an interesting order.
     pub fn ask(self, state: StateNumber, order: OrderHandle) -> Result<bool, Refusal> {
         value(raw::table_ask(self.bytes, state.0, order.0)).map(|held| held == 1)
+    }
+
+    /// A state's held bits as one word, which answers for all interesting orders at
+    /// once: an ask that is not refused says held exactly when its order's bit is 1.
+    /// In a table that passes [`Table::check`] the bits past P+T are 0; of other
+    /// tables the word comes as the table has it.
+    pub fn word(self, state: StateNumber) -> Result<HeldWord, Refusal> {
+        value(raw::table_word(self.bytes, state.0)).map(HeldWord)
     }
 
     /// A state's successors, one byte for each set, as they are in the table.

@@ -28,6 +28,7 @@ extern "C" {
     fn order_table_enter(table: *const u8, length: usize, produced: u8) -> u32;
     fn order_table_take(table: *const u8, length: usize, state: u8, set: u8) -> u32;
     fn order_table_ask(table: *const u8, length: usize, state: u8, order: u8) -> u32;
+    fn order_table_word(table: *const u8, length: usize, state: u8) -> u32;
     fn order_table_row(table: *const u8, length: usize, state: u8) -> u32;
     fn order_table_replay(
         query: *const u8,
@@ -116,6 +117,11 @@ pub fn table_take(table: &[u8], state: u8, set: u8) -> u32 {
 /// Asking for an interesting order in a state: 1 held, 0 not held.
 pub fn table_ask(table: &[u8], state: u8, order: u8) -> u32 {
     unsafe { order_table_ask(table.as_ptr(), table.len(), state, order) }
+}
+
+/// A state's held bits as one word: bit i is interesting order i.
+pub fn table_word(table: &[u8], state: u8) -> u32 {
+    unsafe { order_table_word(table.as_ptr(), table.len(), state) }
 }
 
 /// A state's successor row: its offset in the table.

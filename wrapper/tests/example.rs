@@ -1,7 +1,8 @@
 //! The types on the listing's example, and on trials that are refused or have a
 //! supplier's table.
 
-use order_tables::{build, list, verify, OrderHandle, Refusal, SetHandle, StateNumber, Table};
+use order_tables::{build, list, verify};
+use order_tables::{HeldWord, OrderHandle, Refusal, SetHandle, StateNumber, Table};
 use order_tables::{LISTING_BYTES, LONGEST_TABLE, SCRATCH_BYTES};
 use reference::trials;
 
@@ -30,8 +31,40 @@ fn builds_and_looks_up() {
         let held = table.ask(StateNumber(3), OrderHandle(order));
         assert_eq!(held, Ok(bytes[20] >> order & 1 == 1));
     }
+    let word = table.word(StateNumber(3));
+    assert_eq!(word, Ok(HeldWord(bytes[20].into())));
     let row = table.row(StateNumber(2));
     assert_eq!(row, Ok(&bytes[10..12]));
+}
+
+#[test]
+fn a_word_holds_what_asks_say() {
+    // One state, the most orders, no sets, and all sixteen held bits.
+    for held in [0, 1, 0x0080, 0x0100, 0x8000, 0x5af0, 0xffff] {
+        let mut bytes = [1, 8, 8, 0, 0, 0, 0, 0, 0, 0, 0, 0, 0, 0];
+        bytes[12..].copy_from_slice(&u16::to_le_bytes(held));
+        let table = Table::new(&bytes);
+        let word = table.word(StateNumber(0)).expect("granted");
+        assert_eq!(word, HeldWord(held));
+        for order in (0..=255).map(OrderHandle) {
+            let asked = table.ask(StateNumber(0), order);
+            let expected = match order.0 {
+                0..16 => Ok(word.holds(order)),
+                16.. => Err(Refusal::Handle),
+            };
+            assert_eq!(asked, expected, "{order:?} in {word:?}");
+        }
+    }
+}
+
+#[test]
+fn a_word_holds_no_order_past_its_bits() {
+    for held in [0, 1, 0x8000, 0xffff] {
+        for order in 0..=255 {
+            let expected = order < 16 && u32::from(held) & 1 << order != 0;
+            assert_eq!(HeldWord(held).holds(OrderHandle(order)), expected);
+        }
+    }
 }
 
 #[test]
@@ -128,6 +161,7 @@ fn refuses_space_and_handles_and_rows() {
     assert_eq!(entered, Err(Refusal::Handle));
     let taken = table.take(StateNumber(0), SetHandle(sets));
     assert_eq!(taken, Err(Refusal::Handle));
+    assert_eq!(table.word(StateNumber(states)), Err(Refusal::Handle));
     assert_eq!(table.row(StateNumber(states)), Err(Refusal::Handle));
 
     let mut bytes = example.table.clone();
@@ -136,5 +170,7 @@ fn refuses_space_and_handles_and_rows() {
     let taken = damaged.take(StateNumber(0), SetHandle(0));
     assert_eq!(taken, Err(Refusal::Row));
     assert_eq!(damaged.check(), Err(Refusal::Row));
+    let word = damaged.word(StateNumber(0));
+    assert_eq!(word, Ok(HeldWord(bytes[14].into())));
     assert_eq!(Refusal::Row.number(), 11);
 }

@@ -1,7 +1,7 @@
-//! Prints, as Markdown: nanoseconds per enter, take and ask beside hand-written
-//! C, per ask beside a reduction, the times of builds and of trials of a
-//! supplier's table beside the second implementation, and the figures of document
-//! 000, section 6.2.
+//! Prints, as Markdown: nanoseconds per enter, take, ask and word beside
+//! hand-written C, of all orders of a state by one word beside an ask for each, per
+//! ask beside a reduction, the times of builds and of trials of a supplier's table
+//! beside the second implementation, and the figures of document 000, section 6.2.
 
 use std::hint::black_box;
 
@@ -49,6 +49,7 @@ fn main() {
     println!();
     report::setting();
     lookups();
+    all_orders();
     reduction();
     builds();
     supplied_tables();
@@ -109,7 +110,18 @@ fn lookups() {
         let take = lookup_times(&table, &by_set, proved::table_take, by_hand::take);
         let by_order = pairs(states, produced + tested);
         let ask = lookup_times(&table, &by_order, proved::table_ask, by_hand::ask);
-        for (lookup, [proved, by_hand]) in [("enter", enter), ("take", take), ("ask", ask)] {
+        let word = lookup_times(
+            &table,
+            &pairs(states, 1),
+            |table, state, _| proved::table_word(table, state),
+            |table, state, _| by_hand::word(table, state),
+        );
+        for (lookup, [proved, by_hand]) in [
+            ("enter", enter),
+            ("take", take),
+            ("ask", ask),
+            ("word", word),
+        ] {
             rows.push([
                 format!("{lookup}, table of {} bytes", table.len()),
                 number(proved),
@@ -119,6 +131,50 @@ fn lookups() {
         }
     }
     report::table(["Lookup", "Proved", "C by hand", "Ratio"], &rows);
+}
+
+/// All interesting orders of a state by one word of the proved library, beside an
+/// ask for each. Both ways hand on whether each order is held.
+fn all_orders() {
+    println!("## All orders of a state, ns");
+    println!();
+    println!("One word and each order's bit in it, beside an ask for each order.");
+    println!();
+    let mut rows = Vec::new();
+    for name in LOOKED_UP {
+        let table = built(&trials::named(name).query);
+        let &[states, produced, tested, _] = table.first_chunk().expect("a table has sizes");
+        let orders = produced + tested;
+        let states = pairs(states, 1);
+        let mut by_word = || {
+            for &(state, _) in &states {
+                let word = proved::table_word(black_box(&table[..]), state);
+                for order in 0..orders {
+                    black_box(word >> order & 1);
+                }
+            }
+        };
+        let mut by_asks = || {
+            for &(state, _) in &states {
+                let table = black_box(&table[..]);
+                for order in 0..orders {
+                    black_box(proved::table_ask(table, state, order));
+                }
+            }
+        };
+        let [word, asks] = take_turns(TURNS, LOOKUPS, [&mut by_word, &mut by_asks]);
+        rows.push([
+            name.to_owned(),
+            orders.to_string(),
+            number(word),
+            number(asks),
+            number(asks / word),
+        ]);
+    }
+    report::table(
+        ["Trial", "Orders", "One word", "An ask for each", "Ratio"],
+        &rows,
+    );
 }
 
 /// One ask of a plan: by its state, and by its produced order and sets.
