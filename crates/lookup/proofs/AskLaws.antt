@@ -13,6 +13,7 @@ use Rattle.theory.specs.Refusals.{passed, handle-refused}
 use Rattle.theory.specs.Table as theory
 use Rattle.theory.specs.Table.{Answer, grant, refuse, formRefusal, readRefusal, statesIn, producedIn, testedIn, heldBase, heldIn, heldBit, ask, word}
 use Rattle.theory.proofs.Reflect.{says-eqb, says-ltb}
+use Rattle.theory.proofs.LookupLaw.{ask-granted-is}
 use Rattle.theory.proofs.WordLaws.{word-bit}
 use Rattle.table.specs.Form.{Formed}
 use Rattle.table.proofs.FormLaws.{formed, form-passed}
@@ -41,7 +42,7 @@ module _ (t : Bytes) (state i : ℕ) where
   unfolding ask word readRefusal
   ask-word e =
       let (f, l, h) = asked (heldBit t state i) e in
-      (rw (form-passed f, lt-ltb state (statesIn t) l), rw (form-passed f, lt-ltb state (statesIn t) l, lt-ltb i orders h))
+      (rw (form-passed f, lt-ltb state (statesIn t) l), rw (ask-granted-is t (form-passed f) state i l h, form-passed f, lt-ltb state (statesIn t) l))
 
   -- The word's bit is the byte's: with either, every ask has the same answer and the same refusal.
   pub ask-bytes : ((k : ℕ) → byteAt t k < 256) → ask t state i ≡ answered (byteAt (heldIn t state) (i / 8) / 2 ^ (i % 8) % 2)

@@ -11,10 +11,10 @@ use borrow.Author.Tests.{lt-ltb, le-ltb}
 use Rattle.theory.specs.Tests.{pick, Says, holds, fails}
 use Rattle.theory.specs.Orders.{Order, Query, interesting, After}
 use Rattle.theory.specs.Rows.{HoldsOfRows}
-use Rattle.theory.specs.Refusals.{handle-refused}
+use Rattle.theory.specs.Refusals.{passed, handle-refused}
 use Rattle.theory.specs.Machine.{AllBelow, runs}
 use Rattle.theory.specs.Query.{Bytes}
-use Rattle.theory.specs.Table.{refuse, grant, enter, takeIn, ask, statesIn, producedIn, testedIn, setsIn, sizesIn, startIn, successorIn, wordIn, heldBit, heldOrders, machineIn, bit}
+use Rattle.theory.specs.Table.{refuse, grant, formRefusal, enter, takeIn, ask, statesIn, producedIn, testedIn, setsIn, sizesIn, startIn, successorIn, wordIn, heldBit, heldOrders, machineIn, bit}
 use Rattle.theory.specs.Lookups.{Lookup, entry, taking, asking, run, Answers, done, entry-refused, entry-granted, take-refused, take-granted, ask-refused, ask-granted, Faithful}
 use Rattle.theory.proofs.Reflect.{says-true, says-ltb}
 use Rattle.theory.proofs.RowLaws.{bit-tested}
@@ -38,6 +38,17 @@ pick-same false x = refl
 held-listed : (t : Bytes) (state i : ℕ) → i < producedIn t + testedIn t → heldBit t state i ≡ bit (getD (heldOrders t state) i false)
 held-listed t state i h = bit-tested (wordIn t state / 2 ^ i) ∙ ap bit (sym (bits-entry (producedIn t + testedIn t) (wordIn t state) i h))
 
+module _ (t : Bytes) (form : formRefusal t ≡ passed) where
+  -- in any table that has the form, asking for an interesting order in a state grants the held bit, ..
+  pub ask-granted-is : (state i : ℕ) → state < statesIn t → i < producedIn t + testedIn t → ask t state i ≡ grant (heldBit t state i)
+  unfolding ask
+  ask-granted-is state i b h = rw (form, lt-ltb state (statesIn t) b, lt-ltb i (producedIn t + testedIn t) h)
+
+  -- .. and an ask for P + T or more is refused with 10, whatever the state
+  pub ask-refused-is : (state i : ℕ) → producedIn t + testedIn t ≤ i → ask t state i ≡ refuse handle-refused
+  unfolding ask
+  ask-refused-is state i h = rw (form, le-ltb i (producedIn t + testedIn t) h) (pick-same (ltb state (statesIn t)) (refuse handle-refused))
+
 module _ {q : Query} {t : Bytes} (f : Faithful q t) where
   -- entering by a produced order grants its start, ..
   pub enter-granted-is : (p : ℕ) → p < producedIn t → enter t p ≡ grant (startIn t p)
@@ -59,16 +70,6 @@ module _ {q : Query} {t : Bytes} (f : Faithful q t) where
   pub take-refused-is : (state s : ℕ) → setsIn t ≤ s → takeIn t state s ≡ refuse handle-refused
   unfolding takeIn
   take-refused-is state s h = rw (f .form, le-ltb s (setsIn t) h) (pick-same (ltb state (statesIn t)) (refuse handle-refused))
-
-  -- asking for an interesting order in a state grants the held bit, ..
-  pub ask-granted-is : (state i : ℕ) → state < statesIn t → i < producedIn t + testedIn t → ask t state i ≡ grant (heldBit t state i)
-  unfolding ask
-  ask-granted-is state i b h = rw (f .form, lt-ltb state (statesIn t) b, lt-ltb i (producedIn t + testedIn t) h)
-
-  -- .. and an ask for P + T or more is refused with 10, whatever the state
-  pub ask-refused-is : (state i : ℕ) → producedIn t + testedIn t ≤ i → ask t state i ≡ refuse handle-refused
-  unfolding ask
-  ask-refused-is state i h = rw (f .form, le-ltb i (producedIn t + testedIn t) h) (pick-same (ltb state (statesIn t)) (refuse handle-refused))
 
   -- P + T counts the interesting orders
   interesting-size : producedIn t + testedIn t ≡ length (interesting q)
@@ -105,9 +106,9 @@ module _ {q : Query} {t : Bytes} (f : Faithful q t) where
     law p ss h b (asking i ∷ ls) =
         below-or-not i interesting-size
         (λ l m. let e = f .tells p i ss (subst (λ n. p < n) (f .produced-size) h) (subst (λ n. AllBelow n ss) (f .sets-size) b) m in
-        rw (ask-granted-is (at p ss) i (at-below p ss h b) l, held-listed t (at p ss) i l)
+        rw (ask-granted-is t (f .form) (at p ss) i (at-below p ss h b) l, held-listed t (at p ss) i l)
         (ask-granted m e (λ y. rows (getD (q .produced) p []) ss (getD (interesting q) i []) (says-true e y)) (law p ss h b ls)))
-        (λ l m. rw (ask-refused-is (at p ss) i l) (ask-refused m (law p ss h b ls)))
+        (λ l m. rw (ask-refused-is t (f .form) (at p ss) i l) (ask-refused m (law p ss h b ls)))
 
   -- a granted entry brings any state, and any model, to such a state, so a list that begins with one gets the model's answers throughout
   pub lookup-law : ((p : Order) (ss : List ℕ) (o : Order) → After q p ss o → HoldsOfRows q p ss o) →
