@@ -1,5 +1,5 @@
-// An entry, a take and a word as one number: the refusal's number times 65,536 plus the state or the word, which is 0 on refusal. C and Rust get this number, and the enums
-// are read from it: an enum made first would be packed into a register and taken apart again.
+// An entry, a take and a word as one number: the refusal's number times 65,536 plus the state or the word, which is 0 on refusal. C and Rust get this number: an enum made
+// first would be packed into a register and taken apart again. The enum of an entry or a take is read from it.
 ghost use mathlib.Core.Path.{_≡_};
 ghost use Rattle.theory.specs.Table.{refuse, grantState, enter, takeIn, word};
 ghost use Rattle.table.specs.Form.{Formed};

@@ -1,4 +1,4 @@
-// A state's rows, read where they are, and the sizes, written. What is required here a caller has already shown of the bytes: none of these is an entry
+// A state's successors and held word, read where they are, and the sizes, written. What is required here a caller has already shown of the bytes: none of these is an entry
 // point.
 ghost use mathlib.Core.Path.{_≡_};
 ghost use mathlib.Core.List.{[], _∷_};
