@@ -31,8 +31,8 @@ enum order_table_refusals {
     ORDER_TABLE_COLUMN = 4,    /* a column not below N */
     ORDER_TABLE_REPEAT = 5,    /* a column twice in one order or one dependency */
     ORDER_TABLE_TWIN = 6,      /* two equal interesting orders */
-    ORDER_TABLE_ORDERINGS = 7, /* the construction has more than 256 nodes */
-    ORDER_TABLE_STATES = 8,    /* it has more than 128 states, each its orderings and its sets in force, counted before any share a row */
+    ORDER_TABLE_ORDERINGS = 7, /* never given any more: its number and word stay in the list */
+    ORDER_TABLE_STATES = 8,    /* the smallest table has more than 128 rows */
     ORDER_TABLE_SPACE = 9,     /* scratch below ORDER_TABLE_SCRATCH bytes, or output or text too short */
     ORDER_TABLE_HANDLE = 10,   /* state, produced order, set or interesting order not in the table */
     ORDER_TABLE_ROW = 11,      /* a start or successor that is no state of the table, or a held bit past the interesting orders */
@@ -45,7 +45,7 @@ enum order_table_sizes {
     ORDER_TABLE_SCRATCH = 16384,      /* what a build, a listing or a trial of a supplier's table takes as scratch */
     ORDER_TABLE_LONGEST_QUERY = 165,  /* five sizes, and 32 items of one head and four bytes */
     ORDER_TABLE_LONGEST_TABLE = 1292, /* four sizes, 8 starts, 128 rows of 8 successors, 128 times two bytes of held bits */
-    ORDER_TABLE_LISTING = 7557        /* room for every listing */
+    ORDER_TABLE_LISTING = 7547        /* room for every listing */
 };
 
 /* The refusal's number of a result; 0 when it is granted. */
@@ -54,7 +54,7 @@ static inline uint32_t order_table_refusal(uint32_t result) { return result >> 1
 /* The value of a result; 0 when it is refused. */
 static inline uint32_t order_table_value(uint32_t result) { return result & 0xffff; }
 
-/* The checks 1 to 6 of a query. Value: 0. Refusals: 1 to 6. A query that passes them may still be refused with 7 or 8 when it is built. */
+/* The checks 1 to 6 of a query. Value: 0. Refusals: 1 to 6. A query that passes them may still be refused with 8 when it is built. */
 uint32_t order_query_check(const uint8_t *query, size_t query_length);
 
 /* Interesting order i of a query that passes order_query_check, where i is below P + T: its length in the lowest byte, then its columns, a byte
@@ -67,11 +67,11 @@ uint64_t order_query_order(const uint8_t *query, size_t query_length, uint8_t i)
  * is an equal: two columns. Of other queries, or past the last dependency, it is a number without meaning, fixed by the query's bytes and i. */
 uint64_t order_query_dependency(const uint8_t *query, size_t query_length, uint8_t i);
 
-/* Builds the table of a query into the output's first bytes. Value: the table's length. Refusals: 1 to 9.
- * It is the smallest table: two states of the construction share a row exactly when no order lookup after any run of sets tells them apart, and
- * order_table_verify accepts no table with fewer rows. Refusal 8 counts the states before they are merged. A state is its orderings and its sets in
- * force, so every choice of the sets is one: at most seven sets can be built, and then with one produced order alone. 9 for output goes by the table
- * written.
+/* Builds the table of a query into the output's first bytes. Value: the table's length. Refusals, in this order: 1 to 6, 9 for scratch, 8, and 9 for
+ * output.
+ * It is the smallest table with the answers of the derivation rules: two pairs of a produced order and a choice of sets in force share a row exactly
+ * when no order lookup after any run of further sets tells them apart, and order_table_verify accepts no table with fewer rows. Refusal 8 counts its
+ * rows, and 9 for output goes by its length.
  * On refusal the output keeps its bytes, and those past the table always keep theirs. Refusals 1 to 6, and 9 for scratch, leave the scratch as it
  * is. Afterwards its first ORDER_TABLE_SCRATCH bytes are 0 in every other case; those past them keep theirs. */
 uint32_t order_table_build(const uint8_t *query, size_t query_length, uint8_t *scratch, size_t scratch_length, uint8_t *output,
@@ -89,9 +89,9 @@ uint32_t order_table_check(const uint8_t *table, size_t table_length);
 
 /* Puts a supplier's table on trial for a query. Value: 0, so that an accepted table gives the result 0. Where no refusal before 13 comes, a table is
  * accepted exactly when, from every start and through every run of sets, its answer for each interesting order is the one that the derivation
- * rules give, uncut. State numbers may differ from those of order_table_build, two rows may behave alike, and rows that no start reaches may hold
+ * rules give. State numbers may differ from those of order_table_build, two rows may behave alike, and rows that no start reaches may hold
  * anything that the form allows. An accepted table has at least as many rows as the one that order_table_build writes.
- * Refusals, in this order: 1 to 6 of the query, 9 for scratch, 7 and 8 of the query; 1, 2 and 11 of the table, as order_table_check gives them; 12
+ * Refusals, in this order: 1 to 6 of the query, 9 for scratch, 8 of the query; 1, 2 and 11 of the table, as order_table_check gives them; 12
  * when the table's numbers of produced orders, tested orders and sets are not the query's; 13 when some answer that a start and a run of sets
  * reach is wrong. Query and table are only read. Refusals 1 to 6 of the query, and 9, leave the scratch as it is. Afterwards its first
  * ORDER_TABLE_SCRATCH bytes are 0 in every other case, accepted or refused; those past them keep theirs. */
@@ -116,10 +116,10 @@ uint32_t order_table_word(const uint8_t *table, size_t table_length, uint8_t sta
 /* Where in the table a state's row of successors begins, one byte for each set. Refusals: 1, 2, 10. */
 uint32_t order_table_row(const uint8_t *table, size_t table_length, uint8_t state);
 
-/* Writes the listing of a query, or the line that says how it is refused with 1 to 8, into the text's first bytes. Value: the length of what is
- * written. The count of states is that of the table's rows, and the count of nodes is that of the construction, before merging.
+/* Writes the listing of a query, or the line that says how it is refused with 1 to 6 or 8, into the text's first bytes. Value: the length of what is
+ * written. The listing's first line has the count of states, which are the table's rows.
  * Refusal: 9, and then the text keeps its bytes; those past what is written always keep theirs. The checks 1 to 6 come first; then 9 for
- * scratch, which a query that they refuse does not need; then 7 and 8; and last 9 for a text shorter than what is to be written. The scratch is
+ * scratch, which a query that they refuse does not need; then 8; and last 9 for a text shorter than what is to be written. The scratch is
  * afterwards as order_table_build leaves it. */
 uint32_t order_table_list(const uint8_t *query, size_t query_length, uint8_t *scratch, size_t scratch_length, uint8_t *text, size_t text_length);
 

@@ -4,7 +4,9 @@
 use std::time::{Duration, Instant};
 
 use reference::random::Random;
-use reference::samples::{self, dependency, query_of_many_states, some_columns, Shape};
+use reference::samples::{
+    self, dependency, query_of_chains, query_of_many_rows, some_columns, Shape,
+};
 use reference::Query;
 
 use crate::timing::Builds;
@@ -25,11 +27,11 @@ pub struct Slow {
     pub nanoseconds: f64,
 }
 
-/// The slowest builds found so far: of those that end in a table, of those
-/// refused with 7, and of those refused with 8.
+/// The slowest builds found so far: of those that end in a table, and of those
+/// refused with 8.
 #[derive(Default)]
 pub struct Slowest {
-    by_outcome: [Option<Slow>; 3],
+    by_outcome: [Option<Slow>; 2],
     /// How many builds were timed.
     pub tried: usize,
 }
@@ -55,8 +57,7 @@ impl Slowest {
         slowest
     }
 
-    /// The slowest build that ends in a table, that is refused with 7, and that
-    /// is refused with 8.
+    /// The slowest build that ends in a table, and that is refused with 8.
     pub fn of_each_outcome(&self) -> impl Iterator<Item = &Slow> {
         self.by_outcome.iter().flatten()
     }
@@ -84,8 +85,7 @@ impl Slowest {
         let first = begin.elapsed().as_nanos() as f64;
         let outcome = match result >> 16 {
             0 => 0,
-            7 => 1,
-            8 => 2,
+            8 => 1,
             _ => return,
         };
         self.tried += 1;
@@ -100,10 +100,10 @@ impl Slowest {
         }
     }
 
-    /// A slowest query with one to three changes: most often the slowest of
-    /// all, since a refusal with 7 or 8 may be a change away from a table.
+    /// A slowest query with one to three changes. A refusal may be a change away from
+    /// a table.
     fn changed(&self, random: &mut Random) -> Option<Query> {
-        let slow = self.by_outcome[[0, 0, 0, 0, 1, 2, 2, 2][random.below(8)]].as_ref()?;
+        let slow = self.by_outcome[random.below(2)].as_ref()?;
         let mut query = slow.query.clone();
         for _ in 0..random.between((1, 3)) {
             change(random, &mut query);
@@ -112,37 +112,27 @@ impl Slowest {
     }
 }
 
-/// The most states that are not refused.
-const MOST_STATES: usize = 128;
-/// The most sets of a query that can be built.
-const MOST_SETS: u8 = 7;
+/// The most sets of a query.
+const MOST_SETS: u8 = 8;
 
-/// One start and few columns, of which most orders are nodes.
-const FEW_COLUMNS: Shape = Shape {
-    columns: (1, 7),
-    ..Shape::ONE_START
-};
-
-/// The largest sizes, but for the sets and the dependencies.
+/// The largest sizes, but for the dependencies.
 const LARGE: Shape = Shape {
-    sets: Shape::FEW_SETS.sets,
     dependencies: (2, 16),
     ..Shape::LARGEST
 };
 
 /// A random query that may be slow to build.
 fn large_query(random: &mut Random) -> Query {
-    match random.below(5) {
-        0 => samples::query(random, Shape::FEW_SETS),
-        1 => samples::query(random, Shape::ONE_START),
-        2 => samples::query(random, FEW_COLUMNS),
-        3 => query_of_many_states(random),
-        _ => samples::query(random, LARGE),
+    match random.below(4) {
+        0 => samples::query(random, LARGE),
+        1 => query_of_chains(random, LARGE),
+        2 => query_of_many_rows(random),
+        _ => samples::query(random, Shape::FULL),
     }
 }
 
-/// Changes one order or one dependency, and then has as many sets as its produced
-/// orders leave room for. The query may be refused afterwards.
+/// Changes one order or one dependency, and then has the most sets. The query may be
+/// refused afterwards.
 fn change(random: &mut Random, query: &mut Query) {
     let columns = random.between((4, 12)) as u8;
     query.columns = 12;
@@ -167,11 +157,7 @@ fn change(random: &mut Random, query: &mut Query) {
             put(random, &mut query.dependencies, 16, dependency);
         }
     }
-    // Every choice of sets from every start may be a state.
-    query.sets = (MOST_STATES / query.produced.len()).ilog2() as u8;
-    for dependency in &mut query.dependencies {
-        dependency.set %= query.sets;
-    }
+    query.sets = MOST_SETS;
 }
 
 /// Puts an item into a list: behind it if there is room, or in another's stead.

@@ -2,7 +2,7 @@
 //! the same tables, the same listings and the same refusals, and leave the lent
 //! buffers as document 01 says. The built tables are the smallest. Lists of lookups
 //! on them are answered as the plain model answers them, and the words of their
-//! states have its answers as bits.
+//! states have its answers as bits. Refusal 7 never comes.
 
 use differential::lent::Lent;
 use differential::replay::{lookup_bytes, replayed_answers};
@@ -10,16 +10,18 @@ use differential::tally::Tally;
 use differential::{codes, proved, rounds, Library, SCRATCH_LENGTHS};
 use order_tables::{LISTING_BYTES, LONGEST_TABLE, SCRATCH_BYTES};
 use reference::builder::build_table;
-use reference::construction::{Construction, Limits};
+use reference::construction::of_pairs;
 use reference::lookups::{model_answers, table_answers, Answer};
 use reference::merging::merged;
 use reference::random::Random;
+use reference::refusal::{ORDERINGS, STATES};
 use reference::samples::{
-    self, chain_of_equals, constants_among_produced, joined_starts, own_column_per_set, Shape,
+    self, chain_of_equals, constants, joined_starts, longest_table, most_orders,
+    near_the_most_rows, own_column_per_set, Shape,
 };
 use reference::table::Table;
 use reference::verification::two_alike;
-use reference::{buffers, listing, trials, Implementation, Query};
+use reference::{buffers, listing, trials, Dependency, Implementation, Query};
 
 /// The length of a table, for queries that have none.
 const SOME_TABLE: usize = 22;
@@ -149,8 +151,11 @@ fn queries_of_every_kind_built() {
         comparison.report("queries of every kind, built");
         assert!(comparison.queries.with(0) > 8000);
         // A query that checks 1 to 6 refuse is refused in each of its three builds.
-        assert!((1..=8).all(|refusal| comparison.queries.with(refusal) > 80));
-        assert!((0..=9).all(|refusal| comparison.builds.with(refusal) > 3 * 80));
+        let given = [1, 2, 3, 4, 5, 6, STATES];
+        assert!(given.iter().all(|&n| comparison.queries.with(n) > 80));
+        assert!(given.iter().all(|&n| comparison.builds.with(n) > 2 * 80));
+        assert!([0, 9].iter().all(|&n| comparison.builds.with(n) > 3 * 80));
+        assert_eq!(comparison.builds.with(ORDERINGS), 0);
     }
 }
 
@@ -190,7 +195,9 @@ fn short_scratch_and_short_output_together() {
         comparison.compare(&query, all_lengths);
     }
     comparison.report("short scratch and short output together");
-    assert!((0..=8).all(|refusal| comparison.queries.with(refusal) > 0));
+    assert!([0, 1, 2, 3, 4, 5, 6, STATES]
+        .iter()
+        .all(|&refusal| comparison.queries.with(refusal) > 0));
 }
 
 #[test]
@@ -200,54 +207,117 @@ fn sizes_at_and_past_their_limits() {
         let query = samples::query_of_sizes(&mut comparison.random, sizes);
         comparison.compare(&query, some_lengths);
     }
-    for _ in 0..500 {
+    for _ in 0..40 {
         let query = samples::query(&mut comparison.random, Shape::LARGEST).write();
         comparison.compare(&query, some_lengths);
         let damaged = samples::damaged(&mut comparison.random, &query);
         comparison.compare(&damaged, some_lengths);
+        let query = samples::query_of_chains(&mut comparison.random, Shape::LARGEST);
+        comparison.compare(&query.write(), some_lengths);
     }
     comparison.report("sizes at and past their limits");
-    assert!([1, 2, 7]
+    assert!([0, 2, STATES]
         .iter()
-        .all(|&refusal| comparison.queries.with(refusal) > 50));
+        .all(|&refusal| comparison.queries.with(refusal) > 25));
+    assert!(comparison.queries.with(1) > 0);
+}
+
+/// The rows of the table that the proved library builds of a query, or the refusal.
+fn rows(query: &Query) -> Result<u8, u8> {
+    let mut output = [0; LONGEST_TABLE];
+    let built = Library::build(&query.write(), &mut [0; SCRATCH_BYTES], &mut output);
+    built.map(|_| output[0])
 }
 
 #[test]
-fn states_up_to_128_and_past_them() {
+fn rows_up_to_128_and_past_them() {
     let mut comparison = Comparison::new(5);
+    for (joined, unsorted, expected) in [
+        (true, false, Ok(127)),
+        (false, false, Ok(128)),
+        (true, true, Ok(128)),
+        (false, true, Err(STATES)),
+    ] {
+        let query = near_the_most_rows(joined, unsorted);
+        assert_eq!(rows(&query), expected, "{query:?}");
+        comparison.compare(&query.write(), some_lengths);
+    }
     for sets in 0..=8 {
         let mut query = own_column_per_set(sets);
         comparison.compare(&query.write(), some_lengths);
-        // Each choice of the sets is a state whether it has a row or not.
+        // The same pairs, none of which is told from another.
         query.tested.clear();
+        assert_eq!(rows(&query), Ok(1), "{query:?}");
         comparison.compare(&query.write(), some_lengths);
         query.dependencies.clear();
         comparison.compare(&query.write(), some_lengths);
-        // One start more: 256 states with 7 sets.
+        // One start more.
         query.produced.push(vec![]);
+        assert_eq!(rows(&query), Ok(2), "{query:?}");
         comparison.compare(&query.write(), some_lengths);
-        // One state more than choices of sets: 129 with 7 sets.
         comparison.compare(&joined_starts(sets).write(), some_lengths);
     }
     for sets in 1..=8 {
         comparison.compare(&chain_of_equals(sets).write(), some_lengths);
     }
-    comparison.report("states up to 128 and past them");
-    assert_eq!(comparison.queries.with(8), 8);
+    // The most orders, without and with the most sets and rows.
+    for (query, expected) in [(most_orders(), 16), (longest_table(), 128)] {
+        assert_eq!(rows(&query), Ok(expected), "{query:?}");
+        comparison.compare(&query.write(), some_lengths);
+    }
+    comparison.report("rows up to 128 and past them");
+    assert_eq!(comparison.queries.with(STATES), 3);
 }
 
 #[test]
-fn nodes_up_to_256_and_past_them() {
-    let mut comparison = Comparison::new(6);
-    for triples in 1..=4 {
-        let query = constants_among_produced(triples);
-        let counted = Construction::within(&query, Limits::COUNTING).expect("countable");
-        assert_eq!(counted.nodes.len(), 254 + triples);
-        comparison.compare(&query.write(), some_lengths);
+fn orderings_are_never_refused() {
+    for round in 0..rounds() {
+        let mut comparison = Comparison::new(1000 * round + 6);
+        for columns in 1..=12 {
+            let query = constants(columns);
+            assert_eq!(rows(&query), Ok(2), "{query:?}");
+            comparison.compare(&query.write(), some_lengths);
+        }
+        for _ in 0..400 {
+            // Seven constants or more, and any other dependencies.
+            let shape = Shape {
+                columns: (12, 12),
+                dependencies: (8, 16),
+                sets: (1, 6),
+                ..Shape::FULL
+            };
+            let mut query = samples::query_of_chains(&mut comparison.random, shape);
+            let constants = 7 + comparison.random.below(6) as u8;
+            for (column, dependency) in (0..constants).zip(&mut query.dependencies) {
+                *dependency = Dependency::fix(dependency.set, &[], column);
+            }
+            comparison.compare(&query.write(), some_lengths);
+        }
+        comparison.report("seven constants or more");
+        assert!(comparison.queries.with(0) > 350);
+        for tally in [
+            &comparison.queries,
+            &comparison.builds,
+            &comparison.listings,
+        ] {
+            assert_eq!(tally.with(ORDERINGS), 0);
+        }
     }
-    comparison.report("nodes up to 256 and past them");
-    assert_eq!(comparison.queries.with(0), 2);
-    assert_eq!(comparison.queries.with(7), 2);
+}
+
+#[test]
+fn settled_columns_of_many_columns_and_sets() {
+    for round in 0..rounds() {
+        let mut comparison = Comparison::new(1000 * round + 12);
+        for _ in 0..2000 {
+            let shape = [Shape::FULL, Shape::FEW_SETS, Shape::ONE_START];
+            let shape = shape[comparison.random.below(3)];
+            let query = samples::query_of_chains(&mut comparison.random, shape);
+            comparison.compare_builds(&query.write(), some_lengths);
+        }
+        comparison.report("settled columns of many columns and sets");
+        assert!(comparison.queries.with(0) > 1500);
+    }
 }
 
 #[test]
@@ -266,11 +336,11 @@ fn built_tables_are_the_smallest() {
             assert_eq!(merged(&table), table, "{query:?}");
             assert_eq!(two_alike(&table), None, "{query:?}");
             let query = Query::read(&query).expect("the query has a table");
-            let states = samples::unmerged(&query).states.len();
+            let pairs = of_pairs(&query).states.len();
             tables += 1;
-            smaller += usize::from(table.states.len() < states);
+            smaller += usize::from(table.states.len() < pairs);
         }
-        println!("{tables} built tables are the smallest, {smaller} have fewer rows than states");
+        println!("{tables} built tables are the smallest, {smaller} have fewer rows than pairs");
         assert!(tables > 4000 && smaller > 500);
     }
 }
@@ -280,9 +350,17 @@ fn lists_of_lookups_on_built_tables() {
     for round in 0..rounds() {
         let mut random = Random::new(1000 * round + 7);
         let mut answers = [0; 4];
-        for (shape, count) in [(Shape::SMALL, 3000), (Shape::MIDDLE, 300)] {
+        for (shape, count) in [
+            (Shape::SMALL, 2000),
+            (Shape::CHAINS, 2000),
+            (Shape::MIDDLE, 300),
+            (Shape::FULL, 500),
+        ] {
             for _ in 0..count {
-                let (query, table) = samples::query_with_table(&mut random, shape);
+                let (query, table) = match random.below(2) {
+                    0 => samples::query_with_table(&mut random, shape),
+                    _ => samples::chains_with_table(&mut random, shape),
+                };
                 let lookups = samples::lookups(&mut random, &query, 40);
                 let expected = model_answers(&query, &lookups);
                 let table = Lent::new(&mut random, &table);
@@ -310,7 +388,7 @@ fn lists_of_lookups_on_built_tables() {
         }
         let [moves, held, not_held, refused] = answers;
         println!(
-            "lists of lookups on 3300 built tables: {moves} entries and takes, \
+            "lists of lookups on 4800 built tables: {moves} entries and takes, \
              {held} held, {not_held} not held, {refused} refused"
         );
         assert!(answers.iter().all(|&count| count > 5000));
@@ -322,9 +400,13 @@ fn the_same_sets_in_any_order_and_however_often() {
     for round in 0..rounds() {
         let mut random = Random::new(1000 * round + 11);
         let (mut sequences, mut held, mut not_held) = (0, 0, 0);
-        for (shape, count) in [(Shape::SMALL, 2000), (Shape::MIDDLE, 200)] {
+        for (shape, count) in [
+            (Shape::CHAINS, 2000),
+            (Shape::MIDDLE, 200),
+            (Shape::FULL, 200),
+        ] {
             for _ in 0..count {
-                let (query, _) = samples::query_with_table(&mut random, shape);
+                let (query, _) = samples::chains_with_table(&mut random, shape);
                 let mut output = [0; LONGEST_TABLE];
                 let length = Library::build(&query.write(), &mut [0; SCRATCH_BYTES], &mut output);
                 let table = &output[..length.expect("the query has a table")];
@@ -368,7 +450,7 @@ fn a_refused_replay_keeps_the_lookups() {
     let mut random = Random::new(8);
     for (query, refusal) in [
         (own_column_per_set(8).write(), 8),
-        (constants_among_produced(4).write(), 7),
+        (near_the_most_rows(false, true).write(), 8),
         (vec![1, 1, 0, 0], 1),
     ] {
         let bytes = samples::any_bytes(&mut random, 41);

@@ -1,5 +1,8 @@
-//! Derivation of orderings, uncut: single steps, and steps repeated until
+//! Derivation of orderings of any length: single steps, and steps repeated until
 //! nothing is added.
+//!
+//! Of six columns there are 1,957 orderings and of twelve more than a thousand
+//! million, so this is for few columns.
 
 use std::collections::HashSet;
 
@@ -26,7 +29,7 @@ pub fn steps<'a>(
     }
     for dependency in dependencies {
         match &dependency.rule {
-            Rule::Fix { left, right } => insert_fixed(ordering, left, *right, &mut results),
+            Rule::Fix { left, right } => use_fix(ordering, left, *right, &mut results),
             Rule::Equal(one, other) => {
                 use_equal(ordering, *one, *other, &mut results);
                 use_equal(ordering, *other, *one, &mut results);
@@ -54,32 +57,45 @@ pub fn closure<'a>(
     reached
 }
 
-/// Insert: where all left columns occur and the right one doesn't, the right
-/// one goes in at any place behind all left columns, the end included.
-fn insert_fixed(ordering: &[u8], left: &[u8], right: u8, results: &mut HashSet<Ordering>) {
-    if ordering.contains(&right) {
-        return;
-    }
+/// A fix whose left columns all occur. Where the right column doesn't, it goes in at
+/// any place behind all left columns, the end included. Where it stands behind all
+/// left columns, it is taken out.
+fn use_fix(ordering: &[u8], left: &[u8], right: u8, results: &mut HashSet<Ordering>) {
     let behind_left = left.iter().try_fold(0, |behind, column| {
         place_of(ordering, *column).map(|place| behind.max(place + 1))
     });
-    if let Some(first) = behind_left {
-        results.extend((first..=ordering.len()).map(|place| inserted(ordering, place, right)));
+    let Some(first) = behind_left else {
+        return;
+    };
+    match place_of(ordering, right) {
+        None => {
+            results.extend((first..=ordering.len()).map(|place| inserted(ordering, place, right)));
+        }
+        Some(place) if first <= place => {
+            results.insert(removed(ordering, place));
+        }
+        Some(_) => {}
     }
 }
 
-/// Equal, one way round: where the present column occurs and the absent one
-/// doesn't, the absent one goes in at any place behind the present one, or
-/// directly before it, or in its stead.
-fn use_equal(ordering: &[u8], present: u8, absent: u8, results: &mut HashSet<Ordering>) {
-    if ordering.contains(&absent) {
+/// An equal, one way round. Where the first column occurs and the other one doesn't,
+/// the other one goes in at any place behind the first, or directly before it, or in
+/// its stead. Where the other one stands behind the first, it is taken out.
+fn use_equal(ordering: &[u8], first: u8, other: u8, results: &mut HashSet<Ordering>) {
+    let Some(place) = place_of(ordering, first) else {
         return;
-    }
-    if let Some(place) = place_of(ordering, present) {
-        results.extend((place..=ordering.len()).map(|at| inserted(ordering, at, absent)));
-        let mut replaced = ordering.to_vec();
-        replaced[place] = absent;
-        results.insert(replaced);
+    };
+    match place_of(ordering, other) {
+        None => {
+            results.extend((place..=ordering.len()).map(|at| inserted(ordering, at, other)));
+            let mut replaced = ordering.to_vec();
+            replaced[place] = other;
+            results.insert(replaced);
+        }
+        Some(behind) if place < behind => {
+            results.insert(removed(ordering, behind));
+        }
+        Some(_) => {}
     }
 }
 
@@ -91,4 +107,10 @@ fn inserted(ordering: &[u8], place: usize, column: u8) -> Ordering {
     let mut longer = ordering.to_vec();
     longer.insert(place, column);
     longer
+}
+
+fn removed(ordering: &[u8], place: usize) -> Ordering {
+    let mut shorter = ordering.to_vec();
+    shorter.remove(place);
+    shorter
 }

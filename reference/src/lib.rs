@@ -1,17 +1,18 @@
 //! A second implementation of order tables for the log store's planner.
 //!
-//! It follows document 01 in the plainest way that still runs quickly, so that
-//! another implementation can be compared with it: orderings are lists of
-//! columns kept in hash sets, a state is a bit set of nodes with the sets in
-//! force, and nothing is shared with any other implementation.
+//! It follows documents 01 and 02 in the plainest way that still runs quickly, so
+//! that another implementation can be compared with it: orderings are lists of
+//! columns kept in hash sets, columns are kept in sets, and nothing is shared with
+//! any other implementation.
 //!
-//! The way from a query to an answer is: [`query`] reads the description,
-//! [`construction`] finds nodes and states with the steps of [`derivation`],
-//! [`merging`] leaves the fewest rows, [`table`] writes them down and looks them
-//! up. [`builder`] and [`mod@listing`] join these, [`verification`] puts a
-//! supplier's table on trial, and [`buffers`] puts what they give into lent
-//! buffers. [`model`] answers the same lookups without a table, uncut, and
-//! [`rows`] says what the answers mean for rows.
+//! The way from a query to an answer is: [`query`] reads the description, [`settled`]
+//! says which orders are held under some dependencies, [`construction`] asks it of
+//! every pair of a produced order and a choice of sets, [`merging`] leaves the fewest
+//! rows, [`table`] writes them down and looks them up. [`builder`] and
+//! [`mod@listing`] join these, [`verification`] puts a supplier's table on trial, and
+//! [`buffers`] puts what they give into lent buffers. [`derivation`] has the steps
+//! themselves, for few columns. [`model`] answers lookups by them and without a
+//! table, and [`rows`] says what the answers mean for rows.
 //!
 //! For comparisons, [`implementation`] says what an implementation does,
 //! [`mod@trials`] reads the folder trials/ and puts its trials to one, and
@@ -29,13 +30,13 @@ pub mod listing;
 pub mod lookups;
 pub mod merging;
 pub mod model;
-pub mod node_set;
 pub mod program;
 pub mod query;
 pub mod random;
 pub mod refusal;
 pub mod rows;
 pub mod samples;
+pub mod settled;
 pub mod table;
 pub mod trials;
 pub mod verification;

@@ -1,7 +1,6 @@
-//! The listing: a query's table as text, with the count of nodes. Every line ends
-//! in a newline.
+//! The listing: a query's table as text. Every line ends in a newline.
 
-use crate::builder::constructed;
+use crate::builder::table_of;
 
 /// The listing of a query's bytes, or one line with the refusal's number. Space
 /// never runs short, so 9 never comes.
@@ -19,8 +18,8 @@ pub fn printed(lines: &Result<String, u8>) -> String {
 
 /// The lines of the listing of a query's bytes, or the refusal's number.
 pub fn lines(query: &[u8]) -> Result<String, u8> {
-    let (construction, table) = constructed(query)?;
-    let counts = counts(table.states.len(), construction.nodes.len());
+    let table = table_of(query)?;
+    let count = format!("states {}\n", table.states.len());
     let starts = table.starts.iter().enumerate();
     let starts = starts.map(|(order, state)| format!("start {order} {state}\n"));
     let rows = table.states.iter().enumerate().map(|(number, state)| {
@@ -28,15 +27,5 @@ pub fn lines(query: &[u8]) -> Result<String, u8> {
         let next: String = next.collect();
         format!("state {number} next{next} held {}\n", state.held)
     });
-    Ok([counts + "\n"]
-        .into_iter()
-        .chain(starts)
-        .chain(rows)
-        .collect())
-}
-
-/// A line of counts, as a listing begins with. There it is the rows written, and
-/// the nodes before merging.
-pub fn counts(states: usize, nodes: usize) -> String {
-    format!("states {states} nodes {nodes}")
+    Ok([count].into_iter().chain(starts).chain(rows).collect())
 }

@@ -1,61 +1,96 @@
-//! The plain model of lists of lookups. It knows the query and derives uncut, each
-//! time from the start and under all sets taken; it sees neither a table nor state
-//! numbers.
+//! The plain model of lists of lookups. It knows the query; it sees neither a table
+//! nor state numbers.
+//!
+//! Of queries with few columns it derives orderings, of any length, each time from
+//! the start and under all sets taken, and an ask looks for its order among them. Of
+//! more columns there are too many orderings; there an ask is answered by the closure
+//! test, as in a build. Then the model still checks how a table is made from the
+//! words of pairs and looked up, and not the words.
 
 use std::collections::HashSet;
 
 use crate::derivation::{closure, start, Ordering};
 use crate::query::{Order, Query};
 use crate::refusal;
+use crate::settled::InForce;
 
-/// The plain model: a start order, a list of sets and a set of orderings.
+/// The most columns of a query of which orderings are derived.
+const FEW_COLUMNS: u8 = 6;
+
+/// The plain model: a start order, a list of sets and what is known of them.
 #[derive(Clone, Debug)]
 pub struct Model<'q> {
     query: &'q Query,
     start_order: Option<&'q Order>,
     sets: Vec<u8>,
-    orderings: HashSet<Ordering>,
+    known: Known,
+}
+
+/// What the model asks of.
+#[derive(Clone, Debug)]
+enum Known {
+    /// All orderings that steps under the sets taken, together, give from the start.
+    Orderings(HashSet<Ordering>),
+    /// The dependencies of the sets taken.
+    Dependencies(InForce),
 }
 
 impl<'q> Model<'q> {
     /// The model before any entry: no start order, no sets, no orderings.
     pub fn new(query: &'q Query) -> Self {
-        Self {
+        let mut model = Self {
             query,
             start_order: None,
             sets: Vec::new(),
-            orderings: HashSet::new(),
-        }
+            known: Known::Orderings(HashSet::new()),
+        };
+        model.know();
+        model
     }
 
     /// An entry by a produced order. Refuses a number of P or more with 10.
     pub fn enter(&mut self, produced: u8) -> Result<(), u8> {
         let order = self.query.produced.get(usize::from(produced));
-        let order = order.ok_or(refusal::HANDLE)?;
-        self.start_order = Some(order);
+        self.start_order = Some(order.ok_or(refusal::HANDLE)?);
         self.sets.clear();
-        self.orderings = start(order);
+        self.know();
         Ok(())
     }
 
-    /// A take of a set. The orderings are then all that steps under the sets taken,
-    /// together, give from the start. Refuses a number of S or more with 10.
+    /// A take of a set. Refuses a number of S or more with 10.
     pub fn take(&mut self, set: u8) -> Result<(), u8> {
         if set >= self.query.sets {
             return Err(refusal::HANDLE);
         }
+        // A set that is taken again brings no dependency that is not in force.
+        let again = self.sets.contains(&set);
         self.sets.push(set);
-        let begun = self.start_order.map(|order| start(order));
-        let in_force = self.query.dependencies_of(&self.sets);
-        self.orderings = closure(begun.unwrap_or_default(), in_force);
+        if !again {
+            self.know();
+        }
         Ok(())
+    }
+
+    /// Finds out what there is to know of the start order and the sets taken.
+    fn know(&mut self) {
+        let in_force = self.query.dependencies_of(&self.sets);
+        self.known = if self.query.columns <= FEW_COLUMNS {
+            let begun = self.start_order.map(|order| start(order));
+            Known::Orderings(closure(begun.unwrap_or_default(), in_force))
+        } else {
+            Known::Dependencies(InForce::new(self.query.columns, in_force))
+        };
     }
 
     /// An ask for an interesting order. Refuses a number of P+T or more with 10.
     pub fn ask(&self, order: u8) -> Result<bool, u8> {
         let order = self.query.interesting().nth(usize::from(order));
         let order = order.ok_or(refusal::HANDLE)?;
-        Ok(self.orderings.contains(order))
+        Ok(match (&self.known, self.start_order) {
+            (Known::Orderings(orderings), _) => orderings.contains(order),
+            (Known::Dependencies(in_force), Some(start)) => in_force.holds(start, order),
+            (Known::Dependencies(_), None) => false,
+        })
     }
 
     /// The order of the last granted entry, if there was one.
@@ -68,8 +103,12 @@ impl<'q> Model<'q> {
         &self.sets
     }
 
-    /// The orderings derived since the last granted entry, uncut.
-    pub fn orderings(&self) -> &HashSet<Ordering> {
-        &self.orderings
+    /// The orderings derived since the last granted entry, where the query has few
+    /// columns.
+    pub fn orderings(&self) -> Option<&HashSet<Ordering>> {
+        match &self.known {
+            Known::Orderings(orderings) => Some(orderings),
+            Known::Dependencies(_) => None,
+        }
     }
 }

@@ -13,10 +13,9 @@ pub const COLUMN: u8 = 4;
 pub const REPEAT: u8 = 5;
 /// Two equal interesting orders.
 pub const TWIN: u8 = 6;
-/// More than 256 nodes.
+/// Never given: the number and its word stay in the list.
 pub const ORDERINGS: u8 = 7;
-/// More than 128 states, each its orderings and its sets in force, counted before
-/// merging.
+/// More than 128 rows in the smallest table.
 pub const STATES: u8 = 8;
 /// Scratch below 16,384 bytes, or output shorter than the table.
 pub const SPACE: u8 = 9;
@@ -27,5 +26,5 @@ pub const ROW: u8 = 11;
 /// P, T or S in a table other than in the query.
 pub const MISMATCH: u8 = 12;
 /// An answer of a table, reached from a start through some run of sets, that is
-/// not the uncut derivation's.
+/// not the derivation's.
 pub const ANSWER: u8 = 13;

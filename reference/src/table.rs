@@ -1,16 +1,17 @@
 //! The table's bytes: writing and reading them, checking their form, and looking
 //! them up. Checks and lookups know the bytes and nothing of the query.
 
-use crate::construction::Construction;
-use crate::query::Query;
 use crate::refusal;
 
 /// Sizes before the rest of a table.
 const SIZES: usize = 4;
 /// Bytes of held bits per state.
 const HELD_BYTES: usize = 2;
+/// The most states that a table has room for.
+pub const MOST_STATES: usize = 128;
 
-/// What a table says. It has as many produced orders as starts.
+/// What a table says. It has as many produced orders as starts. It may have more
+/// states than there is room for in a table's bytes.
 #[derive(Clone, Debug, PartialEq, Eq)]
 pub struct Table {
     /// T, the number of tested orders.
@@ -18,7 +19,7 @@ pub struct Table {
     /// S, the number of sets.
     pub sets: u8,
     /// Per produced order, the number of its start.
-    pub starts: Vec<u8>,
+    pub starts: Vec<usize>,
     /// The states in number order.
     pub states: Vec<State>,
 }
@@ -27,42 +28,29 @@ pub struct Table {
 #[derive(Clone, Debug, PartialEq, Eq)]
 pub struct State {
     /// Per set, the number of the state that taking the set leads to.
-    pub successors: Vec<u8>,
+    pub successors: Vec<usize>,
     /// Bit i for interesting order i.
     pub held: u16,
 }
 
 impl Table {
-    /// The table with a row for each state of a query's construction, none merged.
-    pub fn of(query: &Query, construction: &Construction) -> Self {
-        let numbers = |states: &[usize]| states.iter().map(|&state| state as u8).collect();
-        let rows = construction.successors.iter().zip(&construction.held);
-        Self {
-            tested: query.tested.len() as u8,
-            sets: query.sets,
-            starts: numbers(&construction.starts),
-            states: rows
-                .map(|(successors, &held)| State {
-                    successors: numbers(successors),
-                    held,
-                })
-                .collect(),
-        }
-    }
-
     /// Reads a table's bytes, or gives the number of the first check that
     /// refuses them: 1, 2, 1, then 11 when a start or successor is no state or a
     /// held bit past P+T is set.
     pub fn read(table: &[u8]) -> Result<Self, u8> {
         let layout = Layout::read(table)?;
+        let numbers = |from: usize, count: usize| -> Vec<usize> {
+            let numbers = &table[from..][..count];
+            numbers.iter().copied().map(usize::from).collect()
+        };
         let states = (0..layout.states).map(|state| State {
-            successors: table[layout.row_at(state)..][..layout.sets].to_vec(),
+            successors: numbers(layout.row_at(state), layout.sets),
             held: layout.held(table, state),
         });
         let read = Self {
             tested: layout.tested as u8,
             sets: layout.sets as u8,
-            starts: table[layout.start_at(0)..][..layout.produced].to_vec(),
+            starts: numbers(layout.start_at(0), layout.produced),
             states: states.collect(),
         };
         let starts_and_successors = &table[layout.start_at(0)..layout.held_at(0)];
@@ -79,7 +67,7 @@ impl Table {
     }
 
     /// Writes the table's bytes. Nothing is checked, so that refused tables can
-    /// be made too.
+    /// be made too; of each number the lowest byte is written.
     pub fn write(&self) -> Vec<u8> {
         let mut bytes = vec![
             self.states.len() as u8,
@@ -87,8 +75,9 @@ impl Table {
             self.tested,
             self.sets,
         ];
-        bytes.extend(&self.starts);
-        bytes.extend(self.states.iter().flat_map(|state| &state.successors));
+        let successors = self.states.iter().flat_map(|state| &state.successors);
+        let states = self.starts.iter().chain(successors);
+        bytes.extend(states.map(|&state| state as u8));
         let held = self.states.iter().map(|state| state.held);
         bytes.extend(held.flat_map(u16::to_le_bytes));
         bytes
@@ -171,8 +160,10 @@ impl Layout {
         else {
             return Err(refusal::LENGTH);
         };
-        let within_limits =
-            (1..=128).contains(&states) && (1..=8).contains(&produced) && tested <= 8 && sets <= 8;
+        let within_limits = (1..=MOST_STATES as u8).contains(&states)
+            && (1..=8).contains(&produced)
+            && tested <= 8
+            && sets <= 8;
         if !within_limits {
             return Err(refusal::SIZE);
         }

@@ -36,8 +36,8 @@ pub struct Trial {
     pub same: Vec<(u8, [Vec<u8>; 2])>,
     /// A length of scratch, and the refusal with so much.
     pub scratch: Option<(usize, u8)>,
-    /// The counts of states and nodes before merging, if 7 and 8 were never given.
-    pub without_limits: Option<String>,
+    /// The rows of the smallest table, if 8 were never given.
+    pub without_limits: Option<usize>,
     /// A supplier's table; empty when the trial has none.
     pub supplied: Vec<u8>,
     /// What verifying that table gives: nothing when it is accepted, or the
@@ -80,8 +80,8 @@ impl Trial {
         } else if let Some(scratch) = expected.strip_prefix("scratch ") {
             let (length, refusal) = scratch.split_once(" refused ")?;
             self.scratch = Some((length.parse().ok()?, refusal.parse().ok()?));
-        } else if let Some(counts) = expected.strip_prefix("without limits ") {
-            self.without_limits = Some(counts.to_owned());
+        } else if let Some(states) = expected.strip_prefix("without limits states ") {
+            self.without_limits = Some(states.parse().ok()?);
         } else if let Some(bytes) = expected.strip_prefix("supplied ") {
             self.supplied.extend(numbers(bytes)?);
         } else if let Some(verified) = expected.strip_prefix("verified ") {

@@ -52,14 +52,14 @@ fn answer_alike(one: &Table, other: &Table) -> bool {
 
 /// Whether two states of a table give the same answers through every run of
 /// sets.
-pub fn states_alike(table: &Table, one: u8, other: u8) -> bool {
+pub fn states_alike(table: &Table, one: usize, other: usize) -> bool {
     answer_alike_from(vec![(&one, &other)], table, table)
 }
 
 /// Two states of a table that give the same answers through every run of sets,
 /// if there are two.
-pub fn two_alike(table: &Table) -> Option<(u8, u8)> {
-    let states = table.states.len() as u8;
+pub fn two_alike(table: &Table) -> Option<(usize, usize)> {
+    let states = table.states.len();
     let mut pairs = (0..states).flat_map(|one| (0..one).map(move |other| (other, one)));
     pairs.find(|&(one, other)| states_alike(table, one, other))
 }
@@ -67,13 +67,12 @@ pub fn two_alike(table: &Table) -> Option<(u8, u8)> {
 /// Whether two tables of the same P, T and S give the same answers from some
 /// states, each of the one with one of the other, through every run of sets.
 fn answer_alike_from<'t>(
-    mut waiting: Vec<(&'t u8, &'t u8)>,
+    mut waiting: Vec<(&'t usize, &'t usize)>,
     one: &'t Table,
     other: &'t Table,
 ) -> bool {
     let mut classes = Classes::new(one.states.len() + other.states.len());
     while let Some((&state, &other_state)) = waiting.pop() {
-        let (state, other_state) = (usize::from(state), usize::from(other_state));
         if classes.join(state, one.states.len() + other_state) {
             let (state, other_state) = (&one.states[state], &other.states[other_state]);
             if state.held != other_state.held {

@@ -1,25 +1,10 @@
-//! Steps and closures, uncut, against their description.
+//! Steps and closures, of orderings of any length, against their description.
 
 use std::collections::HashSet;
 
 use reference::derivation::{closure, start, steps, Ordering};
-use reference::{Dependency, Rule};
-
-/// All orderings over so many columns.
-fn all_orderings(columns: u8) -> Vec<Ordering> {
-    let mut orderings: Vec<Ordering> = vec![vec![]];
-    let mut next = 0;
-    while next < orderings.len() {
-        for column in 0..columns {
-            if !orderings[next].contains(&column) {
-                let longer = [orderings[next].as_slice(), &[column]].concat();
-                orderings.push(longer);
-            }
-        }
-        next += 1;
-    }
-    orderings
-}
+use reference::samples::all_orderings;
+use reference::{trials, Dependency, Query, Rule};
 
 /// All dependencies over so many columns with at most three left columns.
 fn all_dependencies(columns: u8) -> Vec<Dependency> {
@@ -52,6 +37,18 @@ fn added_at(ordering: &[u8], result: &[u8], column: u8) -> Option<usize> {
     place(result, column).filter(|_| fits)
 }
 
+/// Whether a result is an ordering with one column fewer, which stands behind all of
+/// some others.
+fn taken_out(ordering: &[u8], result: &[u8], column: u8, behind: &[u8]) -> bool {
+    let before = |other: &u8| {
+        let places = [*other, column].map(|column| place(ordering, column));
+        places[0].is_some() && places[0] < places[1]
+    };
+    place(ordering, column).is_some()
+        && without(ordering, column) == result
+        && behind.iter().all(before)
+}
+
 /// Whether one step under a rule leads from an ordering to a result, said of
 /// the two lists instead of found by making results.
 fn is_step(ordering: &[u8], result: &[u8], rule: &Rule) -> bool {
@@ -71,16 +68,17 @@ fn is_step(ordering: &[u8], result: &[u8], rule: &Rule) -> bool {
                 let expected = if at == from_place { to } else { ordering[at] };
                 result[at] == expected
             });
-        added || in_its_stead
+        added || in_its_stead || taken_out(ordering, result, to, &[from])
     };
     is_prefix
         || match rule {
             Rule::Fix { left, right } => {
-                added_at(ordering, result, *right).is_some_and(|right_place| {
+                let added = added_at(ordering, result, *right).is_some_and(|right_place| {
                     left.iter().all(|&column| {
                         place(result, column).is_some_and(|left_place| left_place < right_place)
                     })
-                })
+                });
+                added || taken_out(ordering, result, *right, left)
             }
             Rule::Equal(one, other) => one_way(*one, *other) || one_way(*other, *one),
         }
@@ -148,6 +146,92 @@ fn a_constant_goes_in_everywhere() {
 }
 
 #[test]
+fn a_settled_entry_is_taken_out_where_all_left_columns_stand_before_it() {
+    let (a, b, c, d) = (0, 1, 2, 3);
+    let fix = Dependency::fix(0, &[b, a], c);
+    let taken_out = |ordering: &[u8]| {
+        let result = without(ordering, c);
+        steps(ordering, [&fix]).contains(&result)
+    };
+    assert!(taken_out(&[a, b, c, d]));
+    assert!(taken_out(&[b, a, d, c]));
+    assert!(taken_out(&[d, b, a, c]));
+    assert!(!taken_out(&[a, c, b, d]));
+    assert!(!taken_out(&[c, a, b, d]));
+    assert!(!taken_out(&[a, c, d]));
+    let constant = Dependency::fix(0, &[], c);
+    for ordering in [[c, a, b], [a, c, b]] {
+        assert!(steps(&ordering, [&constant]).contains(&vec![a, b]));
+    }
+}
+
+#[test]
+fn of_two_equal_columns_the_later_one_is_taken_out() {
+    let (a, b, x, y) = (0, 1, 2, 3);
+    for equal in [Dependency::equal(0, a, b), Dependency::equal(0, b, a)] {
+        let expected = [vec![a, b], vec![a, x]];
+        assert_eq!(steps(&[a, b, x], [&equal]), HashSet::from(expected));
+        let expected = [vec![b, x, a], vec![b, x, y]];
+        assert_eq!(steps(&[b, x, a, y], [&equal]), HashSet::from(expected));
+    }
+}
+
+/// What steps give from an order, by way of orderings of at most so many columns.
+fn closure_within(order: &[u8], dependencies: &[Dependency], most: usize) -> HashSet<Ordering> {
+    let mut reached = start(order);
+    let mut waiting: Vec<Ordering> = reached.iter().cloned().collect();
+    while let Some(ordering) = waiting.pop() {
+        let results = steps(&ordering, dependencies).into_iter();
+        for result in results.filter(|result| result.len() <= most) {
+            if reached.insert(result.clone()) {
+                waiting.push(result);
+            }
+        }
+    }
+    reached
+}
+
+#[test]
+fn an_order_may_come_by_way_of_longer_orderings_alone() {
+    let (a, b, d, m) = (0, 1, 2, 3);
+    let trial = trials::named("settled_chain");
+    let query = Query::read(&trial.query).expect("the trial's query is read");
+    assert_eq!(
+        (&query.produced[0], &query.tested[0]),
+        (&vec![a, b, d], &vec![a, d])
+    );
+    let reached = |most| closure_within(&[a, b, d], &query.dependencies, most);
+    assert!(!reached(3).contains(&vec![a, d]));
+    assert!(reached(4).contains(&vec![a, d]));
+    let all = closure(start(&[a, b, d]), &query.dependencies);
+    assert_eq!(reached(4), all);
+
+    let way = [vec![a, b, d], vec![a, m, b, d], vec![a, m, d], vec![a, d]];
+    for step in way.windows(2) {
+        let results = steps(&step[0], &query.dependencies);
+        assert!(results.contains(&step[1]), "{step:?}");
+    }
+    // Without one of the fixes there is no way.
+    for dependency in &query.dependencies {
+        let reached = closure(start(&[a, b, d]), [dependency]);
+        assert!(!reached.contains(&vec![a, d]));
+    }
+}
+
+#[test]
+fn a_fix_never_changes_the_first_entry() {
+    let trial = trials::named("fixes_bring_no_first_column");
+    let query = Query::read(&trial.query).expect("the trial's query is read");
+    for order in &query.produced {
+        let expected: HashSet<Ordering> = all_orderings(3)
+            .into_iter()
+            .filter(|ordering| ordering.first().is_none_or(|first| *first == order[0]))
+            .collect();
+        assert_eq!(closure(start(order), &query.dependencies), expected);
+    }
+}
+
+#[test]
 fn a_closure_adds_nothing_when_closed_again_and_keeps_what_it_had() {
     for dependency in all_dependencies(4) {
         let begun = start(&[3, 0, 1]);
@@ -170,12 +254,20 @@ fn a_closure_under_rules_together_may_have_more_than_one_after_the_other() {
     let (a, b, c) = (0, 1, 2);
     let [one, other] = [Dependency::fix(0, &[b], c), Dependency::fix(1, &[a], b)];
     let together = closure(start(&[a]), [&one, &other]);
-    let expected = [vec![], vec![a], vec![a, b], vec![a, b, c]];
+    let expected = [
+        vec![],
+        vec![a],
+        vec![a, b],
+        vec![a, b, c],
+        vec![a, c],
+        vec![a, c, b],
+    ];
     assert_eq!(together, HashSet::from(expected));
     let one_then_other = closure(closure(start(&[a]), [&one]), [&other]);
     assert!(!one_then_other.contains(&vec![a, b, c]));
     let other_then_one = closure(closure(start(&[a]), [&other]), [&one]);
-    assert_eq!(other_then_one, together);
+    assert!(other_then_one.contains(&vec![a, b, c]));
+    assert!(!other_then_one.contains(&vec![a, c]));
 }
 
 #[test]

@@ -4,10 +4,10 @@
 use std::fs;
 
 use reference::buffers::SCRATCH_BYTES;
-use reference::builder::constructed;
-use reference::construction::Construction;
+use reference::builder::table_of;
+use reference::construction::of_pairs;
 use reference::trials::{self, repository, Trial};
-use reference::{table, verification, Implementation, Reference};
+use reference::{table, verification, Implementation, Query, Reference};
 
 /// The bytes of a file of the repository.
 fn file(path: &str) -> Vec<u8> {
@@ -66,11 +66,12 @@ fn lists(text: &str) -> Vec<Vec<u8>> {
     lists
 }
 
-/// The nodes and the states of a trial's construction, and the rows of its table.
-fn counts(trial: &Trial) -> [String; 3] {
-    let (construction, table) = constructed(&trial.query).expect("the trial has a table");
-    let Construction { nodes, states, .. } = construction;
-    [nodes.len(), states.len(), table.states.len()].map(|count| count.to_string())
+/// The name of a trial that has a table, the pairs of its query and the table's rows.
+fn counts(trial: &Trial) -> Option<[String; 3]> {
+    let table = table_of(&trial.query).ok()?;
+    let query = Query::read(&trial.query).ok()?;
+    let [pairs, rows] = [of_pairs(&query), table].map(|table| table.states.len().to_string());
+    Some([trial.name.clone(), pairs, rows])
 }
 
 #[test]
@@ -167,6 +168,22 @@ fn the_example_has_the_lines_that_the_readme_quotes() {
 }
 
 #[test]
+fn the_trials_that_documents_link_to_are_there() {
+    let mut links = 0;
+    for path in ["README.md", "docs/FORMAT.md"] {
+        let document = document(path);
+        let targets = document.split("](").skip(1);
+        let targets = targets.filter_map(|rest| rest.split(')').next());
+        for target in targets.filter(|target| target.ends_with(".txt")) {
+            let name = target.rsplit('/').next().unwrap_or_default();
+            trials::named(name.trim_end_matches(".txt"));
+            links += 1;
+        }
+    }
+    assert!(links >= 6, "only {links} links");
+}
+
+#[test]
 fn the_format_has_the_query_and_the_table() {
     let example = trials::example();
     let format = document("docs/FORMAT.md");
@@ -190,25 +207,28 @@ fn the_proved_trials_have_the_queries_and_the_table() {
 #[test]
 fn the_benchmarks_have_the_counts() {
     let benchmarks = document("docs/BENCHMARKS.md");
+    let built: Vec<[String; 3]> = trials::all().iter().filter_map(counts).collect();
     let builds: Vec<_> = rows(section(&benchmarks, "Builds, µs")).collect();
-    for row in &builds {
-        let trial = trials::named(row[0]);
-        assert_eq!(row[1..4], counts(&trial), "{row:?}");
-    }
+    let named: Vec<&[&str]> = builds.iter().map(|row| &row[..3]).collect();
+    assert_eq!(named, built);
+
+    let table = |name: &str| table_of(&trials::named(name).query).expect("the trial has a table");
     let verified = section(&benchmarks, "Trials of a supplier's table, µs");
-    let verified: Vec<_> = rows(verified).map(|row| row[..2].to_vec()).collect();
-    let names_and_rows = builds.iter().map(|row| vec![row[0], row[3]]);
-    assert_eq!(verified, names_and_rows.collect::<Vec<_>>());
+    let verified: Vec<_> = rows(verified).collect();
+    assert_eq!(verified.len(), 7);
+    for row in &verified {
+        assert_eq!(row[1], table(row[0]).states.len().to_string(), "{row:?}");
+    }
     let all_orders: Vec<_> = rows(section(&benchmarks, "All orders of a state, ns")).collect();
     assert_eq!(all_orders.len(), 3);
     for row in &all_orders {
-        let (_, table) = constructed(&trials::named(row[0]).query).expect("a table");
-        assert_eq!(row[1], table.interesting().to_string(), "{row:?}");
+        assert_eq!(row[1], table(row[0]).interesting().to_string(), "{row:?}");
     }
-    let trial = trials::named("six_joins");
-    let [nodes, _, rows_written] = counts(&trial);
-    let length = trial.table_length.expect("the length is said").to_string();
-    let last = rows(section(&benchmarks, "Document 000, section 6.2")).last();
-    let last = last.expect("the table has rows");
-    assert_eq!(last[1..], [nodes, rows_written, length]);
+    let figures: Vec<_> = rows(section(&benchmarks, "Document 000, section 6.2")).collect();
+    for (row, name) in figures[2..].iter().zip(["tpcr_query_8", "six_joins"]) {
+        let table = table(name);
+        let expected = [table.states.len(), table.write().len()].map(|count| count.to_string());
+        assert_eq!(row[1..], expected, "trial {name}");
+    }
+    assert_eq!(figures.len(), 4);
 }

@@ -5,10 +5,10 @@ use std::collections::VecDeque;
 
 use reference::buffers::SCRATCH_BYTES;
 use reference::builder::table_of;
-use reference::construction::{Construction, Limits};
-use reference::derivation::Ordering;
+use reference::construction::of_pairs;
+use reference::derivation::{closure, start};
 use reference::lookups::{model_answers, table_answers};
-use reference::merging::{merged, told_apart};
+use reference::merging::{classes, merged, walked};
 use reference::random::Random;
 use reference::samples::{self, Kind, Shape, Supplied};
 use reference::table::{State, Table};
@@ -21,7 +21,8 @@ fn queries(seed: u64, count: usize) -> impl Iterator<Item = (Query, Table)> {
     let mut random = Random::new(seed);
     std::iter::repeat_with(move || match random.below(10) {
         0 => samples::query(&mut random, Shape::FEW_SETS),
-        1 => samples::query_of_many_states(&mut random),
+        1 => samples::query_of_many_rows(&mut random),
+        2..=5 => samples::query_of_chains(&mut random, Shape::CHAINS),
         _ => samples::query(&mut random, Shape::SMALL),
     })
     .filter_map(|query| {
@@ -49,7 +50,6 @@ fn telling_length(table: &Table, one: usize, other: usize) -> Option<usize> {
         }
         let successors = one_state.successors.iter().zip(&other_state.successors);
         for (&one, &other) in successors {
-            let (one, other) = (usize::from(one), usize::from(other));
             if !std::mem::replace(&mut seen[one * states + other], true) {
                 waiting.push_back((one, other, length + 1));
             }
@@ -62,9 +62,8 @@ fn telling_length(table: &Table, one: usize, other: usize) -> Option<usize> {
 fn rows_of(unmerged: &Table, merged: &Table) -> Vec<usize> {
     let mut rows = vec![None; unmerged.states.len()];
     let starts = unmerged.starts.iter().zip(&merged.starts);
-    let mut waiting: Vec<(&u8, &u8)> = starts.collect();
+    let mut waiting: Vec<(&usize, &usize)> = starts.collect();
     while let Some((&state, &row)) = waiting.pop() {
-        let (state, row) = (usize::from(state), usize::from(row));
         match rows[state] {
             Some(other) => assert_eq!(row, other, "two rows for state {state}"),
             None => {
@@ -87,17 +86,18 @@ fn two_states_share_a_row_exactly_when_no_run_of_sets_tells_them_apart() {
         let table = table_of(&query.write()).expect("not refused");
         (query, table)
     });
-    for (query, table) in queries(61, 1000).chain(chains) {
-        let unmerged = samples::unmerged(&query);
+    for (query, table) in queries(61, 500).chain(chains) {
+        let unmerged = of_pairs(&query);
         let rows = rows_of(&unmerged, &table);
-        let told_apart = told_apart(&unmerged);
+        let classes = classes(&unmerged);
         for one in 0..rows.len() {
             for other in 0..rows.len() {
                 let telling = telling_length(&unmerged, one, other);
                 let share = rows[one] == rows[other];
                 assert_eq!(share, telling.is_none(), "{one} {other} {query:?}");
-                assert_eq!(told_apart[one][other], !share, "{one} {other} {query:?}");
-                let alike = states_alike(&unmerged, one as u8, other as u8);
+                let one_class = classes[one] == classes[other];
+                assert_eq!(one_class, share, "{one} {other} {query:?}");
+                let alike = states_alike(&unmerged, one, other);
                 assert_eq!(alike, share, "{one} {other} {query:?}");
                 shared += usize::from(share && one != other);
                 if let Some(length) = telling {
@@ -130,8 +130,8 @@ fn rows_are_numbered_starts_first_then_as_they_are_met() {
         let mut met: Vec<usize> = Vec::new();
         let successors = table.states.iter().flat_map(|state| &state.successors);
         for state in table.starts.iter().chain(successors).copied() {
-            if !met.contains(&state.into()) {
-                met.push(state.into());
+            if !met.contains(&state) {
+                met.push(state);
             }
         }
         let in_number_order: Vec<usize> = (0..table.states.len()).collect();
@@ -162,7 +162,8 @@ fn the_table_answers_as_the_unmerged_one_and_the_plain_model_do() {
     let mut smaller = 0;
     for _ in 0..1000 {
         let (query, table) = samples::query_with_table(&mut random, Shape::SMALL);
-        let unmerged = samples::unmerged(&query).write();
+        let unmerged = samples::unmerged(&query).expect("there are few pairs");
+        let unmerged = unmerged.write();
         smaller += usize::from(table.len() < unmerged.len());
         let lookups = samples::lookups(&mut random, &query, 40);
         let answers = table_answers::<Reference>(&table, &lookups);
@@ -203,10 +204,9 @@ fn every_accepted_table_has_as_many_rows_or_more_and_merges_into_the_own_one() {
 
 /// A table without this row. What led to it leads to another row.
 fn without_row(table: &Table, row: usize, instead: usize) -> Table {
-    let lead = |state: &u8| {
-        let state = usize::from(*state);
+    let lead = |&state: &usize| {
         let state = if state == row { instead } else { state };
-        (state - usize::from(state > row)) as u8
+        state - usize::from(state > row)
     };
     let states = table.states.iter().enumerate();
     let states = states.filter(|&(number, _)| number != row);
@@ -225,7 +225,7 @@ fn without_row(table: &Table, row: usize, instead: usize) -> Table {
 #[test]
 fn a_table_with_a_row_left_out_is_refused() {
     let mut left_out = 0;
-    for (query, table) in queries(68, 800) {
+    for (query, table) in queries(68, 500) {
         let states = table.states.len().min(12);
         for row in 0..states {
             for instead in (0..states).filter(|&instead| instead != row) {
@@ -244,13 +244,14 @@ fn no_table_of_one_or_two_rows_is_right_for_the_running_query() {
     let query = Query::read(&trial.query).expect("the trial's query is read");
     let own = Table::read(&trial.table).expect("the trial's table has the form");
     assert_eq!((own.states.len(), own.interesting()), (3, 3));
-    for rows in 1..=2u8 {
+    for rows in 1..=2 {
         // The starts and the successors, two per row, are rows in all ways.
-        let rows_in_all_ways = samples::choices([&[0, 1][..usize::from(rows)]; 6]);
-        for [one, other, successors @ ..] in rows_in_all_ways {
+        let rows_in_all_ways = samples::choices([&[0, 1][..rows]; 6]);
+        for numbers in rows_in_all_ways {
+            let [one, other, successors @ ..] = numbers.map(usize::from);
             for held in 0..1 << (3 * rows) {
-                let state = |row: u8| State {
-                    successors: successors[usize::from(2 * row)..][..2].to_vec(),
+                let state = |row: usize| State {
+                    successors: successors[2 * row..][..2].to_vec(),
                     held: held >> (3 * row) & 7,
                 };
                 let table = Table {
@@ -279,33 +280,44 @@ fn the_accepted_tables_of_trials_merge_into_the_built_ones() {
 }
 
 #[test]
-fn the_unmerged_table_of_a_trial_is_that_of_the_construction() {
+fn the_unmerged_table_of_a_trial_has_a_row_for_each_pair() {
     let trial = trials::named("supplied_unmerged");
     let query = Query::read(&trial.query).expect("the trial's query is read");
-    let unmerged = samples::unmerged(&query);
+    let pairs = of_pairs(&query);
+    let unmerged = walked(&pairs);
     assert_eq!(unmerged.write(), trial.supplied);
-
-    // Of the states that share a row, two differ in an ordering besides their sets
-    // in force.
-    let construction = Construction::of(&query).expect("within the limits");
-    let (a, c) = (0, 2);
-    for (one, other, more) in [
-        (0, 3, vec![]),
-        (1, 4, vec![]),
-        (2, 6, vec![vec![a, c]]),
-        (5, 7, vec![]),
-    ] {
+    assert_eq!(unmerged.states.len(), pairs.states.len());
+    assert_eq!(samples::unmerged(&query), Some(unmerged.clone()));
+    for (one, other) in [(0, 3), (1, 4), (2, 6), (5, 7)] {
         assert!(states_alike(&unmerged, one, other), "{one} {other}");
-        let [one, other] = [one, other].map(|state| construction.orderings_of(state.into()));
-        assert!(one.is_subset(&other));
-        let difference: Vec<Ordering> = other.difference(&one).cloned().collect();
-        assert_eq!(difference, more);
+    }
+
+    // After both sets, state 6, (a,c) is derived, and after set 0 alone it is not.
+    let (a, c) = (0, 2);
+    let derived = |sets: &[u8]| {
+        let orderings = closure(start(&query.produced[0]), query.dependencies_of(sets));
+        orderings.contains(&vec![a, c])
+    };
+    assert!(derived(&[0, 1]) && !derived(&[0]));
+}
+
+#[test]
+fn the_walk_numbers_states_and_changes_no_answer() {
+    let mut random = Random::new(71);
+    for (query, _) in queries(72, 500) {
+        let Some(unmerged) = samples::unmerged(&query) else {
+            continue;
+        };
+        for _ in 0..3 {
+            let renumbered = samples::renumbered(&mut random, &unmerged);
+            assert_eq!(walked(&renumbered), unmerged, "{query:?}");
+        }
     }
 }
 
 /// A table of one set, in which each row leads to this one and holds order 0 or
 /// none.
-fn one_set(starts: &[u8], rows: &[(u8, bool)]) -> Table {
+fn one_set(starts: &[usize], rows: &[(usize, bool)]) -> Table {
     let states = rows.iter().map(|&(next, held)| State {
         successors: vec![next],
         held: held.into(),
@@ -367,20 +379,29 @@ fn states_of_a_trial_are_told_apart_after_as_many_sets_as_is_said_of_them() {
 }
 
 #[test]
-fn states_are_counted_before_merging() {
-    let trial = trials::named("states_counted_before_merging");
-    let mut query = Query::read(&trial.query).expect("the trial's query is read");
-    assert_eq!(Construction::of(&query).err(), Some(8));
-    let construction = Construction::within(&query, Limits::COUNTING).expect("countable");
-    assert_eq!(construction.states.len(), 256);
-    let unmerged = Table::of(&query, &construction);
-    assert_eq!(merged(&unmerged).states.len(), 1);
+fn the_rows_of_a_trial_are_as_many_as_is_said_of_them() {
+    // Of what each group of sets has, where no group is whole; without set 0 and with
+    // it.
+    let groups = [&[1, 2][..], &[3, 4, 5], &[6, 7]];
+    let partial: usize = groups.iter().map(|sets| (1 << sets.len()) - 1).product();
+    let trial = trials::named("eight_sets_built");
+    let query = Query::read(&trial.query).expect("the trial's query is read");
+    let table = table_of(&trial.query).expect("the trial's query has a table");
+    assert_eq!(table.states.len(), 2 * (partial + 1));
+    assert_eq!(of_pairs(&query).states.len(), 256);
 
-    // Without the last set there are 128 states, which share one row.
-    query.dependencies.retain(|dependency| dependency.set != 7);
-    query.sets = 7;
-    let construction = Construction::of(&query).expect("within the limits");
-    assert_eq!(construction.states.len(), 128);
-    let table = table_of(&query.write()).expect("the query has a table");
-    assert_eq!(table.states.len(), 1);
+    let held = |choice: usize| {
+        let has = |set: &u8| choice >> set & 1 == 1;
+        has(&0) && groups.iter().any(|sets| sets.iter().all(has))
+    };
+    let bytes = table.write();
+    for choice in 0..256 {
+        let sets: Vec<u8> = (0..8).filter(|set| choice >> set & 1 == 1).collect();
+        let state = Reference::follow(&bytes, 0, &sets).expect("granted");
+        assert_eq!(
+            Reference::ask(&bytes, state, 1),
+            Ok(held(choice)),
+            "{sets:?}"
+        );
+    }
 }

@@ -377,20 +377,8 @@ fn verify_with(query: &[u8], table: &[u8], scratch: usize) -> Result<(), u8> {
     lend(query, scratch, 0, verify, &[]).map(|_| ())
 }
 
-/// More than 256 nodes, and more than 128 states when nodes are not counted.
-fn too_many_nodes() -> Vec<u8> {
-    let query = Query {
-        columns: 8,
-        produced: vec![vec![]],
-        tested: vec![vec![0, 1, 2], vec![3, 4, 5], vec![6, 7]],
-        sets: 8,
-        dependencies: (0..8).map(|set| Dependency::fix(set, &[], set)).collect(),
-    };
-    query.write()
-}
-
-/// 256 states of few nodes.
-fn too_many_states() -> Vec<u8> {
+/// A query of 256 rows.
+fn too_many_rows() -> Vec<u8> {
     trials::named("eight_sets").query
 }
 
@@ -420,7 +408,7 @@ const LONG_SCRATCH: [usize; 3] = [16_384, 16_385, 20_000];
 
 #[test]
 fn scratch_below_its_length_gives_9_before_anything_is_constructed() {
-    for query in [EXAMPLE.clone(), too_many_nodes(), too_many_states()] {
+    for query in [EXAMPLE.clone(), too_many_rows()] {
         for scratch in SHORT_SCRATCH {
             for output in [0, 22, 2048] {
                 assert_eq!(build_with(&query, scratch, output), Err(9));
@@ -431,28 +419,27 @@ fn scratch_below_its_length_gives_9_before_anything_is_constructed() {
 }
 
 #[test]
-fn nodes_are_refused_before_states_and_states_before_output() {
+fn rows_are_refused_before_output() {
     for scratch in LONG_SCRATCH {
         for output in [0, 2048] {
-            assert_eq!(build_with(&too_many_nodes(), scratch, output), Err(7));
-            assert_eq!(build_with(&too_many_states(), scratch, output), Err(8));
+            assert_eq!(build_with(&too_many_rows(), scratch, output), Err(8));
         }
     }
 }
 
 #[test]
-fn eight_sets_give_8_unless_an_earlier_check_refuses() {
+fn eight_sets_are_refused_for_their_rows_alone() {
     let with_sets = |query: &[u8], sets: u8| {
         let mut query = Query::read(query).expect("not refused");
         query.sets = sets;
         query.write()
     };
-    for (name, refused_before) in [("constant", None), ("seven_constants", Some(7))] {
+    for name in ["constant", "seven_constants", "settled_chain"] {
         let query = trials::named(name).query;
-        for (sets, refused) in [(7, None), (8, Some(8))] {
+        for sets in [7, 8] {
             let query = with_sets(&query, sets);
-            let built = build_with(&query, SCRATCH_BYTES, 2048).err();
-            assert_eq!(built, refused_before.or(refused), "{name}, {sets} sets");
+            let rows = 2 * usize::from(sets) + 2 * 2;
+            assert_eq!(build_with(&query, SCRATCH_BYTES, 2048), Ok(4 + 1 + rows));
             assert_eq!(build_with(&query, SCRATCH_BYTES - 1, 2048), Err(9));
         }
     }
@@ -476,7 +463,7 @@ fn output_shorter_than_the_table_gives_9() {
 
 #[test]
 fn text_shorter_than_what_is_printed_gives_9() {
-    for query in [EXAMPLE.clone(), too_many_nodes(), too_many_states()] {
+    for query in [EXAMPLE.clone(), too_many_rows()] {
         let length = listing(&query).len();
         for scratch in LONG_SCRATCH {
             for text in 0..length {
@@ -536,7 +523,7 @@ fn a_query_refused_on_reading_is_refused_before_scratch_and_table() {
 
 #[test]
 fn short_scratch_is_refused_before_the_construction_and_the_table() {
-    for query in [EXAMPLE.clone(), too_many_nodes(), too_many_states()] {
+    for query in [EXAMPLE.clone(), too_many_rows()] {
         for (table, _) in tables_of_every_outcome() {
             for scratch in SHORT_SCRATCH {
                 assert_eq!(verify_with(&query, &table, scratch), Err(9));
@@ -546,12 +533,10 @@ fn short_scratch_is_refused_before_the_construction_and_the_table() {
 }
 
 #[test]
-fn nodes_and_states_are_refused_before_the_table() {
-    for (query, number) in [(too_many_nodes(), 7), (too_many_states(), 8)] {
-        for (table, _) in tables_of_every_outcome() {
-            for scratch in LONG_SCRATCH {
-                assert_eq!(verify_with(&query, &table, scratch), Err(number));
-            }
+fn rows_are_refused_before_the_table() {
+    for (table, _) in tables_of_every_outcome() {
+        for scratch in LONG_SCRATCH {
+            assert_eq!(verify_with(&too_many_rows(), &table, scratch), Err(8));
         }
     }
 }
@@ -589,14 +574,19 @@ fn random_queries_of_all_sizes_read_back_and_build() {
     let mut random = Random::new(41);
     let mut outcomes = [0; 12];
     for _ in 0..1500 {
-        let query = samples::query(&mut random, Shape::FULL);
+        let query = match random.below(4) {
+            0 => samples::query_of_many_rows(&mut random),
+            1 => samples::query_of_chains(&mut random, Shape::FULL),
+            _ => samples::query(&mut random, Shape::FULL),
+        };
         let bytes = query.write();
         assert_eq!(Query::read(&bytes), Ok(query));
         let built = build_with(&bytes, SCRATCH_BYTES, 2048);
         outcomes[usize::from(built.err().unwrap_or(0))] += 1;
     }
-    let enough = outcomes[0] > 500 && outcomes[7] > 100 && outcomes[8] > 100;
+    let enough = outcomes[0] > 1000 && outcomes[8] > 50;
     assert!(enough, "{outcomes:?}");
+    assert_eq!(outcomes[0] + outcomes[8], 1500, "{outcomes:?}");
 }
 
 #[test]

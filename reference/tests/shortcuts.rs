@@ -1,18 +1,21 @@
 //! The shortcuts that lose orders or invent them are not taken. Each query
-//! here comes out otherwise in a construction that takes the shortcut. Three trials
-//! have the table of such a construction.
+//! here comes out otherwise in a program that takes the shortcut. Five trials have the
+//! table of such a program.
 
 use std::collections::{BTreeSet, HashSet};
 
 use reference::buffers::SCRATCH_BYTES;
 use reference::builder::{build_table, table_of};
-use reference::construction::{Construction, Limits};
+use reference::construction::of_pairs;
 use reference::derivation::{closure, start, steps, Ordering};
 use reference::lookups::{model_answers, table_answers, Answer, Lookup};
 use reference::merging::merged;
+use reference::random::Random;
 use reference::rows::{obey, stand_in};
-use reference::table::{State, Table};
-use reference::{trials, Dependency, Implementation, Query, Reference};
+use reference::samples::{self, Shape};
+use reference::settled::InForce;
+use reference::table::{word, State, Table};
+use reference::{trials, Dependency, Implementation, Query, Reference, Rule};
 
 /// Whether an interesting order is held after entering by produced order 0 and
 /// taking set 0. The table and the plain model must agree.
@@ -24,7 +27,7 @@ fn held_after_set_0(query: &Query, order: u8) -> bool {
     answers[2] == Answer::Held(true)
 }
 
-/// What a construction knows of a state. Orderings are uncut.
+/// What a construction knows of a state.
 #[derive(Clone, PartialEq, Eq)]
 struct Known {
     start: HashSet<Ordering>,
@@ -76,11 +79,10 @@ fn table_by(
     let mut rows = Vec::new();
     let number = |states: &mut Vec<Known>, state: Known| {
         let number = states.iter().position(|other| same(other, &state));
-        let number = number.unwrap_or_else(|| {
+        number.unwrap_or_else(|| {
             states.push(state);
             states.len() - 1
-        });
-        number as u8
+        })
     };
     let starts = query.produced.iter();
     let starts = starts.map(|order| number(&mut states, Known::start(order)));
@@ -102,6 +104,45 @@ fn table_by(
         starts,
         states: rows,
     }
+}
+
+/// The table of a construction that derives orderings in this way, from those that a
+/// state has and under its sets in force.
+fn table_of_derivation(
+    query: &Query,
+    derive: impl Fn(&HashSet<Ordering>, &[Dependency]) -> HashSet<Ordering>,
+) -> Table {
+    let take = |state: &Known, set: u8| {
+        let in_force = state.with_in_force(set);
+        let dependencies: Vec<Dependency> = query.dependencies_of(&in_force).cloned().collect();
+        Known {
+            orderings: derive(&state.orderings, &dependencies),
+            in_force,
+            ..state.clone()
+        }
+    };
+    table_by(query, take, Known::eq)
+}
+
+/// Everything that steps give from some orderings, where a result is changed in this
+/// way, or dropped, before the derivation goes on.
+fn closure_by(
+    from: &HashSet<Ordering>,
+    dependencies: &[Dependency],
+    kept: impl Fn(&Ordering, Ordering) -> Option<Ordering>,
+) -> HashSet<Ordering> {
+    let mut reached = from.clone();
+    let mut waiting: Vec<Ordering> = from.iter().cloned().collect();
+    while let Some(ordering) = waiting.pop() {
+        for result in steps(&ordering, dependencies) {
+            if let Some(result) = kept(&ordering, result) {
+                if reached.insert(result.clone()) {
+                    waiting.push(result);
+                }
+            }
+        }
+    }
+    reached
 }
 
 /// The query of a trial.
@@ -167,7 +208,8 @@ fn a_set_is_not_forgotten_when_the_next_is_taken() {
 #[test]
 fn a_supplied_table_is_that_of_forgotten_sets() {
     let name = "supplied_wrong_after_three_sets";
-    assert_eq!(table_of_forgotten_sets(&query_of(name)), supplied(name));
+    let table = table_of_forgotten_sets(&query_of(name));
+    assert_eq!(merged(&table), supplied(name));
 }
 
 #[test]
@@ -191,26 +233,17 @@ fn states_with_the_same_orderings_and_other_sets_in_force_are_two() {
     let take = |state: &Known, set: u8| state.take(&query, set);
     let table = table_by(&query, take, Known::same_orderings);
     assert!(!is_right(&query, &table));
-
-    // Counted so, the states would be few enough.
-    let query = query_of("states_counted_with_sets_in_force");
-    let take = |state: &Known, set: u8| state.take(&query, set);
-    let table = table_by(&query, take, Known::same_orderings);
-    assert_eq!(table.states.len(), 2);
-    assert_eq!(Construction::of(&query).err(), Some(8));
-    let construction = Construction::within(&query, Limits::COUNTING).expect("countable");
-    assert_eq!(construction.states.len(), 256);
 }
 
 /// A table in which states that hold the same orders share a row.
 fn joined_by_held_bits(table: &Table) -> Table {
-    let held = |state: &u8| table.states[usize::from(*state)].held;
+    let held = |state: &usize| table.states[*state].held;
     let mut different: Vec<u16> = table.states.iter().map(|state| state.held).collect();
     different.sort();
     different.dedup();
-    let row = |state: &u8| {
+    let row = |state: &usize| {
         let row = different.iter().position(|other| *other == held(state));
-        row.expect("it is one of them") as u8
+        row.expect("it is one of them")
     };
     let rows = different.iter().map(|held| {
         let mut states = table.states.iter();
@@ -231,8 +264,10 @@ fn joined_by_held_bits(table: &Table) -> Table {
 #[test]
 fn states_are_not_joined_by_their_held_bits_alone() {
     for name in [
+        "eight_sets_built",
         "index_scan",
         "set_remembered",
+        "settled_chain_in_two_sets",
         "six_joins",
         "told_apart_after_six_sets",
         "two_fixes_either_way",
@@ -248,40 +283,98 @@ fn states_are_not_joined_by_their_held_bits_alone() {
     assert!(is_right(&query, &joined_by_held_bits(&table)));
 }
 
-/// The table of a construction that goes on only from orderings that an
-/// interesting order begins with.
-fn table_of_the_prefix_test(query: &Query) -> Table {
-    let begun = |ordering: &Ordering| {
-        let mut interesting = query.interesting();
-        interesting.any(|order| order.starts_with(ordering))
-    };
-    let take = |state: &Known, set: u8| {
-        let mut taken = state.clone();
-        taken.in_force = state.with_in_force(set);
-        let mut waiting: Vec<Ordering> = state.orderings.iter().cloned().collect();
-        while let Some(ordering) = waiting.pop() {
-            let results = steps(&ordering, query.dependencies_of(&taken.in_force));
-            for result in results.into_iter().filter(begun) {
-                if taken.orderings.insert(result.clone()) {
-                    waiting.push(result);
-                }
-            }
-        }
-        taken
-    };
-    table_by(query, take, Known::eq)
-}
-
 #[test]
 fn derivation_goes_on_where_no_interesting_order_begins_so() {
     let name = "supplied_prefix_test";
     let query = query_of(name);
-    let (a, b) = (0, 1);
-    assert!(query.interesting().all(|order| !order.starts_with(&[a, b])));
-    let construction = Construction::of(&query).expect("within the limits");
-    assert!(construction.nodes.contains(&vec![a, b]));
-    assert_eq!(merged(&table_of_the_prefix_test(&query)), supplied(name));
+    let begun = |ordering: &Ordering| {
+        let mut interesting = query.interesting();
+        interesting.any(|order| order.starts_with(ordering))
+    };
+    let table = table_of_derivation(&query, |from, dependencies| {
+        closure_by(from, dependencies, |_, result| Some(result).filter(begun))
+    });
+    assert_eq!(merged(&table), supplied(name));
     assert!(!is_right(&query, &supplied(name)));
+}
+
+#[test]
+fn orderings_are_not_cut_at_the_longest_interesting_order() {
+    for name in ["settled_chain", "settled_chain_in_two_sets"] {
+        let query = query_of(name);
+        let longest = query.interesting().map(Vec::len).max();
+        let longest = longest.expect("there is an order");
+        let cut_at = |most: usize| {
+            table_of_derivation(&query, |from, dependencies| {
+                closure_by(from, dependencies, |_, mut result| {
+                    result.truncate(most);
+                    Some(result)
+                })
+            })
+        };
+        assert!(!is_right(&query, &cut_at(longest)), "trial {name}");
+        assert!(is_right(&query, &cut_at(longest + 1)), "trial {name}");
+    }
+}
+
+/// The table of a construction that puts settled columns in and takes none out but a
+/// last one.
+fn table_of_columns_kept(query: &Query) -> Table {
+    table_of_derivation(query, |from, dependencies| {
+        closure_by(from, dependencies, |ordering, result| {
+            let taken_out = result.len() < ordering.len() && !ordering.starts_with(&result);
+            (!taken_out).then_some(result)
+        })
+    })
+}
+
+#[test]
+fn a_settled_column_is_taken_out() {
+    let name = "supplied_settled_column_kept";
+    let query = query_of(name);
+    assert_eq!(merged(&table_of_columns_kept(&query)), supplied(name));
+    assert!(!is_right(&query, &supplied(name)));
+    for name in ["equal_column_goes", "left_column_behind", "settled_chain"] {
+        let query = query_of(name);
+        let table = table_of_columns_kept(&query);
+        assert!(!is_right(&query, &table), "trial {name}");
+    }
+    // Where no interesting order comes by taking out, nothing is lost.
+    let name = "supplied_nothing_to_take_out";
+    let query = query_of(name);
+    assert_eq!(table_of_columns_kept(&query), supplied(name));
+    assert!(is_right(&query, &supplied(name)));
+}
+
+#[test]
+fn a_table_of_columns_kept_is_wrong_only_where_it_says_not_held() {
+    let mut random = Random::new(91);
+    let (mut right, mut wrong) = (0, 0);
+    for _ in 0..600 {
+        let query = samples::query_of_chains(&mut random, Shape::CHAINS);
+        let kept = merged(&table_of_columns_kept(&query));
+        let own = table_of(&query.write()).expect("there are few pairs");
+        let mut same = true;
+        for produced in 0..query.produced.len() as u8 {
+            for choice in 0..1 << query.sets {
+                let sets = (0..query.sets).filter(|set| choice >> set & 1 == 1);
+                let sets: Vec<u8> = sets.collect();
+                let [said, is_so] = [&kept, &own].map(|table| {
+                    let table = table.write();
+                    let state = Reference::follow(&table, produced, &sets);
+                    word(&table, state.expect("granted")).expect("granted")
+                });
+                assert_eq!(said & !is_so, 0, "{produced} {sets:?} {query:?}");
+                same &= said == is_so;
+            }
+        }
+        // Where it is right, it is accepted, and it is the same table.
+        assert_eq!(is_right(&query, &kept), same, "{query:?}");
+        assert_eq!(kept == own, same, "{query:?}");
+        right += usize::from(same);
+        wrong += usize::from(!same);
+    }
+    assert!(right > 50 && wrong > 50, "{right} right, {wrong} wrong");
 }
 
 #[test]
@@ -332,36 +425,346 @@ fn a_right_column_goes_in_behind_all_its_left_columns() {
     assert_eq!(held, [false, false, false, true, true, true]);
 }
 
-#[test]
-fn a_right_column_in_no_interesting_order_may_be_the_left_of_another() {
-    let (a, b, c, d) = (0, 1, 2, 3);
+/// How a program departs from the closure test.
+#[derive(Clone, Copy, Debug, PartialEq, Eq)]
+enum Fault {
+    /// Not at all.
+    None,
+    /// A fix is used when one of its left columns is missing.
+    LeftColumnMissing,
+    /// An entry looked for counts as settled by the entries behind it too.
+    PutInBeforeItsLeft,
+    /// An entry of the produced order is dropped with one of its left columns behind
+    /// it.
+    LeftColumnBehind,
+    /// An equal settles the second column from the first and not the other way.
+    EqualOneWay,
+    /// Two columns are alike when one equal has both.
+    ClassByOneEqual,
+    /// The settled columns are those of one pass over the dependencies.
+    OnePass,
+    /// Any entries of the produced order are passed over.
+    UnsettledSkipped,
+    /// The next entry of the produced order is compared even when it is settled.
+    SettledNotDropped,
+    /// Two fixes that settle each other are an equal.
+    PairOfFixesAsEqual,
+}
+
+impl Fault {
+    /// Whether rows in a produced order are said to be in another.
+    fn holds(self, dependencies: &[Dependency], produced: &[u8], order: &[u8]) -> bool {
+        let dependencies = match self {
+            Self::PairOfFixesAsEqual => with_equals_for_pairs(dependencies),
+            _ => dependencies.to_vec(),
+        };
+        let mut rest = produced;
+        for (place, &column) in order.iter().enumerate() {
+            let done = match self {
+                Self::PutInBeforeItsLeft => without(order, column),
+                _ => order[..place].to_vec(),
+            };
+            let settled = self.settled(&dependencies, &done);
+            if settled.contains(&column) {
+                continue;
+            }
+            let alike = |other: u8| self.alike(&dependencies, column, other);
+            while let Some((&first, behind)) = rest.split_first() {
+                let dropped = match self {
+                    Self::SettledNotDropped => false,
+                    Self::UnsettledSkipped => !alike(first),
+                    Self::LeftColumnBehind => {
+                        let around = [&done, behind].concat();
+                        self.settled(&dependencies, &around).contains(&first)
+                    }
+                    _ => settled.contains(&first),
+                };
+                if !dropped {
+                    break;
+                }
+                rest = behind;
+            }
+            match rest.split_first() {
+                Some((&first, behind)) if alike(first) => rest = behind,
+                _ => return false,
+            }
+        }
+        true
+    }
+
+    /// The columns that some columns settle: passes over the dependencies, until one
+    /// adds nothing.
+    fn settled(self, dependencies: &[Dependency], columns: &[u8]) -> BTreeSet<u8> {
+        let mut settled: BTreeSet<u8> = columns.iter().copied().collect();
+        loop {
+            let before = settled.len();
+            for dependency in dependencies {
+                let is_settled = |column: &u8| settled.contains(column);
+                let more = match &dependency.rule {
+                    Rule::Fix { left, right } => match left.iter().all(is_settled) {
+                        true => Some(*right),
+                        false if self == Self::LeftColumnMissing => {
+                            left.iter().any(is_settled).then_some(*right)
+                        }
+                        false => None,
+                    },
+                    Rule::Equal(one, other) if is_settled(one) => Some(*other),
+                    Rule::Equal(one, other) if is_settled(other) => {
+                        (self != Self::EqualOneWay).then_some(*one)
+                    }
+                    Rule::Equal(..) => None,
+                };
+                settled.extend(more);
+            }
+            if settled.len() == before || self == Self::OnePass {
+                return settled;
+            }
+        }
+    }
+
+    /// Whether two columns are in one class.
+    fn alike(self, dependencies: &[Dependency], one: u8, other: u8) -> bool {
+        let equals = dependencies
+            .iter()
+            .filter(|dependency| matches!(dependency.rule, Rule::Equal(..)));
+        let equals: Vec<Dependency> = equals.cloned().collect();
+        match self {
+            Self::ClassByOneEqual => {
+                let pairs = [Rule::Equal(one, other), Rule::Equal(other, one)];
+                one == other || equals.iter().any(|equal| pairs.contains(&equal.rule))
+            }
+            _ => Self::None.settled(&equals, &[one]).contains(&other),
+        }
+    }
+
+    /// The smallest table with the answers of the program, for a query of few rows.
+    fn table(self, query: &Query) -> Table {
+        let mut table = of_pairs(query);
+        let choices = 1 << query.sets;
+        for (number, state) in table.states.iter_mut().enumerate() {
+            let (produced, choice) = (&query.produced[number / choices], number % choices);
+            let sets: Vec<u8> = (0..query.sets)
+                .filter(|set| choice >> set & 1 == 1)
+                .collect();
+            let in_force: Vec<Dependency> = query.dependencies_of(&sets).cloned().collect();
+            let held = query
+                .interesting()
+                .enumerate()
+                .filter(|(_, order)| self.holds(&in_force, produced, order));
+            state.held = held.fold(0, |bits, (number, _)| bits | 1 << number);
+        }
+        merged(&table)
+    }
+}
+
+/// An order without one of its columns.
+fn without(order: &[u8], column: u8) -> Vec<u8> {
+    let mut rest = order.to_vec();
+    rest.retain(|&entry| entry != column);
+    rest
+}
+
+/// Dependencies with an equal besides for each two columns that settle each other.
+fn with_equals_for_pairs(dependencies: &[Dependency]) -> Vec<Dependency> {
+    let mut more = dependencies.to_vec();
+    for dependency in dependencies {
+        if let Rule::Fix { left, right } = &dependency.rule {
+            let back = Rule::Fix {
+                left: vec![*right],
+                right: *left.first().unwrap_or(right),
+            };
+            if left.len() == 1 && dependencies.iter().any(|other| other.rule == back) {
+                more.push(Dependency::equal(dependency.set, left[0], *right));
+            }
+        }
+    }
+    more
+}
+
+/// Columns of the queries below.
+const A: u8 = 0;
+const B: u8 = 1;
+const C: u8 = 2;
+const D: u8 = 3;
+
+/// A fix of the one set of the queries below.
+fn fix(left: &[u8], right: u8) -> Dependency {
+    Dependency::fix(0, left, right)
+}
+
+/// An equal of that set.
+fn equal(one: u8, other: u8) -> Dependency {
+    Dependency::equal(0, one, other)
+}
+
+/// Checks that after a set of these dependencies a tested order is held, or is not,
+/// where another is produced, and that a program with this fault says otherwise and
+/// gives a wrong table.
+fn assert_wrong(
+    fault: Fault,
+    dependencies: &[Dependency],
+    (produced, tested): (&[u8], &[u8]),
+    held: bool,
+) {
     let query = Query {
         columns: 4,
-        produced: vec![vec![a]],
-        tested: vec![vec![a, d, c]],
+        produced: vec![produced.to_vec()],
+        tested: vec![tested.to_vec()],
         sets: 1,
-        dependencies: vec![
-            Dependency::fix(0, &[a], b),
-            Dependency::fix(0, &[b], c),
-            Dependency::equal(0, b, d),
-        ],
+        dependencies: dependencies.to_vec(),
     };
-    assert!(held_after_set_0(&query, 1));
-    let construction = Construction::of(&query).expect("within the limits");
-    assert!(construction.nodes.contains(&vec![a, b, c]));
+    assert_eq!(held_after_set_0(&query, 1), held);
+    assert_eq!(fault.holds(dependencies, produced, tested), !held);
+    assert!(is_right(&query, &Fault::None.table(&query)));
+    assert!(!is_right(&query, &fault.table(&query)));
 }
 
 #[test]
-fn a_left_column_in_no_interesting_order_keeps_its_nodes() {
-    let (a, b, c) = (0, 1, 2);
-    let query = Query {
-        columns: 3,
-        produced: vec![vec![a]],
-        tested: vec![vec![c, a]],
-        sets: 1,
-        dependencies: vec![Dependency::fix(0, &[a], b), Dependency::fix(0, &[b], c)],
-    };
-    let construction = Construction::of(&query).expect("within the limits");
-    let expected = [vec![], vec![a], vec![a, b]];
-    assert_eq!(construction.nodes, expected);
+fn a_fix_settles_nothing_with_a_left_column_missing() {
+    let fault = Fault::LeftColumnMissing;
+    let fixes = [fix(&[A, B], C)];
+    assert_wrong(fault, &fixes, (&[A, C, D], &[A, D]), false);
+    assert_wrong(fault, &fixes, (&[A, D], &[A, C, D]), false);
+}
+
+#[test]
+fn a_right_column_is_not_put_in_before_the_last_of_its_left_columns() {
+    let fault = Fault::PutInBeforeItsLeft;
+    assert_wrong(fault, &[fix(&[A, B], C)], (&[A, B], &[A, C, B]), false);
+    assert_wrong(fault, &[fix(&[A], B)], (&[A], &[B, A]), false);
+}
+
+#[test]
+fn a_right_column_is_not_taken_out_with_a_left_column_behind_it() {
+    let fault = Fault::LeftColumnBehind;
+    assert_wrong(fault, &[fix(&[A], B)], (&[B, A], &[A]), false);
+    let fixes = [fix(&[A, B], C)];
+    assert_wrong(fault, &fixes, (&[A, C, B, D], &[A, B, D]), false);
+}
+
+#[test]
+fn an_equal_settles_either_column_from_the_other() {
+    let fault = Fault::EqualOneWay;
+    assert_wrong(fault, &[equal(A, B)], (&[B, A, C], &[B, C]), true);
+    assert_wrong(fault, &[equal(A, B), fix(&[], B)], (&[C], &[A, C]), true);
+}
+
+#[test]
+fn a_class_is_joined_by_several_equals() {
+    let fault = Fault::ClassByOneEqual;
+    assert_wrong(fault, &[equal(A, B), equal(B, C)], (&[A], &[C]), true);
+    let equals = [equal(C, D), equal(A, B), equal(D, B)];
+    assert_wrong(fault, &equals, (&[A], &[C]), true);
+}
+
+#[test]
+fn settled_columns_settle_others_in_any_sequence_of_the_dependencies() {
+    // D comes by way of B, which comes later in the pass.
+    let fault = Fault::OnePass;
+    let chain = [fix(&[B], D), fix(&[A], B)];
+    assert_wrong(fault, &chain, (&[A, D, C], &[A, C]), true);
+    assert_wrong(fault, &chain, (&[A, C], &[A, D, C]), true);
+}
+
+#[test]
+fn an_entry_of_the_produced_order_that_is_not_settled_is_not_passed_over() {
+    let fault = Fault::UnsettledSkipped;
+    assert_wrong(fault, &[], (&[A, B], &[B]), false);
+    assert_wrong(fault, &[fix(&[A], B)], (&[A, C, D], &[A, B, D]), false);
+}
+
+#[test]
+fn a_settled_entry_of_the_produced_order_is_passed_over() {
+    let fault = Fault::SettledNotDropped;
+    assert_wrong(fault, &[fix(&[A], B)], (&[A, B, C], &[A, C]), true);
+    assert_wrong(fault, &[equal(A, B)], (&[A, B, C], &[B, C]), true);
+}
+
+#[test]
+fn a_pair_of_fixes_joins_no_class() {
+    let fault = Fault::PairOfFixesAsEqual;
+    let pair = [fix(&[A], B), fix(&[B], A)];
+    assert_wrong(fault, &pair, (&[A], &[B]), false);
+    assert_wrong(fault, &pair, (&[A, C], &[B, C]), false);
+}
+
+#[test]
+fn faults_of_the_closure_test_give_wrong_tables_for_trials() {
+    for (fault, names) in [
+        (Fault::LeftColumnBehind, &["left_column_behind"][..]),
+        (Fault::EqualOneWay, &["equal_column_goes"]),
+        (Fault::ClassByOneEqual, &["told_apart_after_six_sets"]),
+        (Fault::OnePass, &["slowest_build"]),
+        (
+            Fault::UnsettledSkipped,
+            &["time_axis_code", "settled_chain"],
+        ),
+        (
+            Fault::SettledNotDropped,
+            &["time_axis_code", "settled_chain"],
+        ),
+        (Fault::PairOfFixesAsEqual, &["pair_of_fixes"]),
+    ] {
+        for name in names {
+            let query = query_of(name);
+            assert!(!is_right(&query, &fault.table(&query)), "{fault:?} {name}");
+        }
+    }
+    let query = query_of("supplied_pair_of_fixes");
+    let table = Fault::PairOfFixesAsEqual.table(&query);
+    assert_eq!(table, supplied("supplied_pair_of_fixes"));
+}
+
+#[test]
+fn without_a_fault_the_test_gives_what_the_derivation_and_the_closure_test_give() {
+    let mut random = Random::new(92);
+    for _ in 0..500 {
+        let query = samples::query_of_chains(&mut random, Shape::CHAINS);
+        let own = table_of(&query.write()).expect("there are few pairs");
+        assert_eq!(Fault::None.table(&query), own, "{query:?}");
+    }
+    for _ in 0..500 {
+        let query = samples::query_of_chains(&mut random, Shape::FULL);
+        let in_force = InForce::new(query.columns, &query.dependencies);
+        for produced in &query.produced {
+            for order in query.interesting() {
+                let held = Fault::None.holds(&query.dependencies, produced, order);
+                assert_eq!(in_force.holds(produced, order), held, "{query:?}");
+            }
+        }
+    }
+}
+
+#[test]
+fn a_right_column_in_no_interesting_order_may_be_the_left_of_another() {
+    for name in [
+        "settled_chain",
+        "settled_chain_in_two_sets",
+        "eight_sets_built",
+    ] {
+        let query = query_of(name);
+        let mut fewer = query.clone();
+        fewer
+            .dependencies
+            .retain(|dependency| match dependency.rule {
+                Rule::Fix { right, .. } => query.interesting().any(|order| order.contains(&right)),
+                Rule::Equal(..) => true,
+            });
+        assert!(fewer.dependencies.len() < query.dependencies.len());
+        let table = table_of(&fewer.write()).expect("not refused");
+        assert!(!is_right(&query, &table), "trial {name}");
+    }
+}
+
+#[test]
+fn rows_are_counted_for_refusal_8_and_not_pairs() {
+    for name in ["eight_sets_built", "empty_sets_share_rows", "tpcr_query_8"] {
+        let query = query_of(name);
+        assert!(of_pairs(&query).states.len() > 128, "trial {name}");
+        let table = build_table(&query.write());
+        assert!(table.is_ok_and(|table| table[0] <= 128), "trial {name}");
+    }
+    for name in ["eight_sets", "one_row_too_many"] {
+        assert_eq!(build_table(&query_of(name).write()), Err(8), "trial {name}");
+    }
 }

@@ -87,10 +87,11 @@ fn what_is_read_of_a_table_is_what_lookups_give_and_is_written_back() {
         read += 1;
         assert_eq!(table.write(), bytes);
         for (produced, &start) in (0..).zip(&table.starts) {
-            assert_eq!(enter(&bytes, produced), Ok(start));
+            assert_eq!(enter(&bytes, produced), Ok(start as u8));
         }
         for (number, state) in (0..).zip(&table.states) {
-            assert_eq!(row(&bytes, number), Ok(&state.successors[..]));
+            let successors: Vec<u8> = state.successors.iter().map(|&s| s as u8).collect();
+            assert_eq!(row(&bytes, number), Ok(&successors[..]));
             assert_eq!(word(&bytes, number), Ok(state.held));
             for order in 0..table.interesting() {
                 let held = state.held >> order & 1 == 1;

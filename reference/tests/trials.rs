@@ -1,14 +1,13 @@
 //! Every file of the folder trials/, put to this implementation, and how such a
 //! file is read.
 
-use reference::construction::{Construction, Limits};
-use reference::listing::counts;
+use reference::construction::smallest;
 use reference::lookups::{model_answers, Answer};
 use reference::trials::{self, Trial};
 use reference::{Dependency, Query, Reference};
 
 /// How many trials there are at least.
-const TRIALS: usize = 39;
+const TRIALS: usize = 47;
 
 #[test]
 fn every_trial() {
@@ -25,17 +24,16 @@ fn every_trial() {
 }
 
 /// Checks what a trial says that needs the query: what the plain model answers,
-/// and what is counted before merging and without limits.
+/// and the rows without limits.
 fn check_by_the_query(trial: &Trial, query: &Query) {
     for (lookups, held) in &trial.asks {
         let answer = model_answers(query, lookups).pop();
         let expected = Some(Answer::Held(*held));
         assert_eq!(answer, expected, "{lookups:?} of trial {}", trial.name);
     }
-    if let Some(expected) = &trial.without_limits {
-        let counted = Construction::within(query, Limits::COUNTING).expect("countable");
-        let counts = counts(counted.states.len(), counted.nodes.len());
-        assert_eq!(counts, *expected, "trial {}", trial.name);
+    if let Some(expected) = trial.without_limits {
+        let rows = smallest(query).states.len();
+        assert_eq!(rows, expected, "trial {}", trial.name);
     }
 }
 
@@ -58,10 +56,10 @@ fn what_comes_out_otherwise_than_a_trial_says_is_seen() {
         let trial = Trial::read("", &[query, said].concat());
         trial.expect("the trial can be read").check::<Reference>()
     };
-    let (counts, state) = ("= states 1 nodes 1", "= state 0 next 0 held 1");
-    let in_sequence = format!("{counts}\n{state}");
-    let backwards = format!("{state}\n{counts}");
-    let all = format!("= whole\n{counts}\n= start 0 0\n{state}");
+    let (count, state) = ("= states 1", "= state 0 next 0 held 1");
+    let in_sequence = format!("{count}\n{state}");
+    let backwards = format!("{state}\n{count}");
+    let all = format!("= whole\n{count}\n= start 0 0\n{state}");
     for said in [
         "",
         &in_sequence,
@@ -78,9 +76,10 @@ fn what_comes_out_otherwise_than_a_trial_says_is_seen() {
         assert_eq!(check(said), Ok(()), "{said}");
     }
     for said in [
-        "= states 1 nodes 2",
+        "= states 2",
+        "= states 1 nodes 1",
         &backwards,
-        "= whole\n= states 1 nodes 1",
+        "= whole\n= states 1",
         "= refused 8",
         "= table 7",
         "= bytes 1 1 0 1",
@@ -101,7 +100,9 @@ fn what_comes_out_otherwise_than_a_trial_says_is_seen() {
 fn lines_that_cannot_be_read_are_refused() {
     for text in [
         "1 1 0 256",
-        "=states 1 nodes 1",
+        "=states 1",
+        "= without limits 1",
+        "= without limits states many",
         "= table",
         "= bytes 5 256",
         "= after 0 1 held 1",

@@ -99,8 +99,12 @@ fn a_table_is_refused_exactly_when_a_run_of_sets_leads_to_a_wrong_answer() {
     let mut accepted = 0;
     let mut wrong_after = [0; 4];
     for _ in 0..1000 {
-        let (query, own) = samples::query_with_table(&mut random, TINY);
-        let own_table = Table::read(&own).expect("a built table has the form");
+        let query = match random.below(2) {
+            0 => samples::query(&mut random, TINY),
+            _ => samples::query_of_chains(&mut random, TINY),
+        };
+        let own_table = table_of(&query.write()).expect("there are few pairs");
+        let own = own_table.write();
         for kind in Kind::ALL {
             let Supplied { table, known } =
                 samples::supplied(&mut random, kind, &query, &own_table);
@@ -191,6 +195,8 @@ fn tables_of_trials_are_wrong_after_as_many_sets_as_is_said_of_them() {
         ("supplied_pair_of_fixes", Some(1)),
         ("supplied_prefix_test", Some(2)),
         ("supplied_wrong_after_three_sets", Some(3)),
+        ("supplied_settled_column_kept", Some(1)),
+        ("supplied_nothing_to_take_out", None),
         ("supplied_renumbered", None),
         ("supplied_twin_rows", None),
         ("supplied_unmerged", None),

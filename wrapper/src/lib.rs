@@ -36,7 +36,7 @@ pub const LONGEST_QUERY: usize = 5 + 32 * 5;
 /// and 128 times two bytes of held bits.
 pub const LONGEST_TABLE: usize = 4 + 8 + 128 * 8 + 128 * 2;
 /// Bytes that are enough for every listing.
-pub const LISTING_BYTES: usize = 7557;
+pub const LISTING_BYTES: usize = 7547;
 
 /// An interesting order: the produced ones count first, then the tested ones.
 #[derive(Clone, Copy, Debug, PartialEq, Eq, Hash, PartialOrd, Ord)]
@@ -64,17 +64,16 @@ impl HeldWord {
 }
 
 /// Builds the table of a query into the output's first bytes, and gives its
-/// length. It is the smallest table: two states of the construction share a row
-/// exactly when no order lookup after any run of sets tells them apart, and
-/// [`verify`] accepts no table with fewer rows.
+/// length. It is the smallest table with the answers of the derivation rules: two
+/// pairs of a produced order and a choice of sets in force share a row exactly when
+/// no order lookup after any run of further sets tells them apart, and [`verify`]
+/// accepts no table with fewer rows.
 ///
-/// [`Refusal::States`] counts the states before they are merged. A state is its
-/// orderings and its sets in force, so every choice of the sets is one: at most
-/// seven sets can be built, and then with one produced order alone.
-/// [`Refusal::Space`] for output goes by the table written. On refusal the output
-/// keeps its bytes, and those past the table always keep theirs. Once the checks 1
-/// to 6 and the scratch length have passed, the scratch's first [`SCRATCH_BYTES`]
-/// bytes are 0 afterwards, refused or not; all others keep theirs.
+/// [`Refusal::States`] counts its rows, and [`Refusal::Space`] for output goes by its
+/// length. On refusal the output keeps its bytes, and those past the table always
+/// keep theirs. Once the checks 1 to 6 and the scratch length have passed, the
+/// scratch's first [`SCRATCH_BYTES`] bytes are 0 afterwards, refused or not; all
+/// others keep theirs.
 pub fn build(query: &[u8], scratch: &mut [u8], output: &mut [u8]) -> Result<usize, Refusal> {
     value(raw::table_build(query, scratch, output)).map(usize::from)
 }
@@ -82,7 +81,7 @@ pub fn build(query: &[u8], scratch: &mut [u8], output: &mut [u8]) -> Result<usiz
 /// Puts a supplier's table on trial for a query. Where nothing is refused before
 /// [`Refusal::Answer`], a table is accepted exactly when, from every start and
 /// through every run of sets, its answer for each interesting order is the one
-/// that the derivation rules give, uncut. State numbers may differ from those that
+/// that the derivation rules give. State numbers may differ from those that
 /// [`build`] gives, two rows may behave alike, and rows that no start reaches may
 /// hold anything that the form allows. An accepted table has at least as many rows
 /// as the one that [`build`] gives.
@@ -96,9 +95,8 @@ pub fn verify(query: &[u8], table: Table, scratch: &mut [u8]) -> Result<(), Refu
 }
 
 /// Writes the listing of a query, or the line that says how it is refused with 1
-/// to 8, into the text's first bytes, and gives the length of what is written. The
-/// count of states is that of the table's rows, and the count of nodes is that of
-/// the construction, before merging.
+/// to 6 or 8, into the text's first bytes, and gives the length of what is written.
+/// The listing's first line has the count of states, which are the table's rows.
 ///
 /// Refuses only with [`Refusal::Space`]: for scratch, after the checks 1 to 6,
 /// so that a query that they refuse needs none, and for text. On refusal the text

@@ -18,10 +18,9 @@ pub enum Refusal {
     Repeat,
     /// Two equal interesting orders.
     Twin,
-    /// The construction has more than 256 nodes.
+    /// Never given any more: its number and word stay in the list.
     Orderings,
-    /// The construction has more than 128 states, each its orderings and its sets
-    /// in force, counted before any are merged into one row.
+    /// The smallest table has more than 128 rows.
     States,
     /// Scratch below 16,384 bytes, or output or text too short.
     Space,

@@ -38,6 +38,35 @@ fn builds_and_looks_up() {
 }
 
 #[test]
+fn takes_a_settled_column_out() {
+    for (name, sets) in [
+        ("time_axis_code", &[0][..]),
+        ("settled_chain", &[0]),
+        ("settled_chain_in_two_sets", &[1, 0]),
+    ] {
+        let trial = trials::named(name);
+        let mut output = [0; LONGEST_TABLE];
+        let length = build(&trial.query, &mut [0; SCRATCH_BYTES], &mut output);
+        let table = Table::new(&output[..length.expect("not refused")]);
+        let mut state = table.enter(OrderHandle(0)).expect("granted");
+        for &set in sets {
+            assert_eq!(table.ask(state, OrderHandle(1)), Ok(false), "trial {name}");
+            state = table.take(state, SetHandle(set)).expect("granted");
+        }
+        assert_eq!(table.ask(state, OrderHandle(1)), Ok(true), "trial {name}");
+    }
+}
+
+#[test]
+fn builds_what_has_many_orderings_or_many_pairs_and_few_rows() {
+    for name in ["seven_constants", "empty_sets_share_rows", "tpcr_query_8"] {
+        let trial = trials::named(name);
+        let built = build_in(&trial.query, SCRATCH_BYTES, LONGEST_TABLE);
+        assert_eq!(built.ok(), trial.table_length, "trial {name}");
+    }
+}
+
+#[test]
 fn a_word_holds_what_asks_say() {
     // One state, the most orders, no sets, and all sixteen held bits.
     for held in [0, 1, 0x0080, 0x0100, 0x8000, 0x5af0, 0xffff] {
@@ -133,8 +162,8 @@ fn refuses_queries() {
         ("thirteen_columns", Refusal::Size),
         ("column_n", Refusal::Column),
         ("repeated_column", Refusal::Repeat),
-        ("seven_constants", Refusal::Orderings),
         ("eight_sets", Refusal::States),
+        ("one_row_too_many", Refusal::States),
     ] {
         let trial = trials::named(name);
         assert_eq!(refusal.to_string(), trial.lines[0], "trial {name}");

@@ -10,7 +10,8 @@ use benchmarks::reduction::PlanNode;
 use benchmarks::report::{self, number};
 use benchmarks::timing::{take_turns, Builds};
 use order_tables::raw as proved;
-use reference::builder::constructed;
+use reference::builder::table_of;
+use reference::construction::of_pairs;
 use reference::random::Random;
 use reference::samples::renumbered;
 use reference::table::Table;
@@ -34,14 +35,16 @@ const REDUCED: [&str; 5] = [
     "reduction_not_confluent",
     "set_remembered",
 ];
-/// The queries that are built, and whose tables are put on trial: small ones,
-/// middle ones of the most states and of many nodes, and one of the most rows.
-const BUILT: [&str; 5] = [
+/// The queries whose tables are put on trial: small ones, ones of many pairs and
+/// few rows, and ones of the most rows.
+const SUPPLIED: [&str; 7] = [
     "constant",
     "listing_example",
     "six_joins",
-    "six_constants",
+    "slowest_build",
+    "tpcr_query_8",
     "seven_sets",
+    "eight_sets_built",
 ];
 
 fn main() {
@@ -248,34 +251,34 @@ fn reduction() {
     );
 }
 
-/// Builds of the proved library beside those of the second implementation.
+/// Builds of the proved library beside those of the second implementation: of every
+/// trial that has a table.
 fn builds() {
     println!("## Builds, µs");
     println!();
+    println!(
+        "Every trial that has a table. Pairs are those of a produced order and a choice of sets in force; \
+         rows are those of the table."
+    );
+    println!();
     let mut rows = Vec::new();
-    for name in BUILT {
-        let query = trials::named(name).query;
-        let (construction, table) = constructed(&query).expect("the trial's query has a table");
-        let [proved, second] = Builds::new().both_times(BUILD_TURNS, &query);
+    for trial in trials::all() {
+        let Ok(table) = table_of(&trial.query) else {
+            continue;
+        };
+        let query = Query::read(&trial.query).expect("the trial's query is read");
+        let [proved, second] = Builds::new().both_times(BUILD_TURNS, &trial.query);
         rows.push([
-            name.to_owned(),
-            construction.nodes.len().to_string(),
-            construction.states.len().to_string(),
+            trial.name,
+            of_pairs(&query).states.len().to_string(),
             table.states.len().to_string(),
             number(proved / 1000.0),
             number(second / 1000.0),
             number(proved / second),
         ]);
     }
-    println!(
-        "States are those of the construction, each its orderings and its sets in force, before merging; \
-         rows are those of the table."
-    );
-    println!();
     report::table(
-        [
-            "Trial", "Nodes", "States", "Rows", "Proved", "Second", "Ratio",
-        ],
+        ["Trial", "Pairs", "Rows", "Proved", "Second", "Ratio"],
         &rows,
     );
 }
@@ -290,7 +293,7 @@ fn supplied_tables() {
     println!();
     let mut random = Random::new(3);
     let mut rows = Vec::new();
-    for name in BUILT {
+    for name in SUPPLIED {
         let query = trials::named(name).query;
         let own = Table::read(&built(&query)).expect("a built table has the form");
         let supplied = std::iter::repeat_with(|| renumbered(&mut random, &own))
@@ -322,22 +325,23 @@ fn supplied_tables() {
     );
 }
 
-/// The figures of document 000 for query 8 of TPC-R, beside those of its joins here.
+/// The figures of document 000 for query 8 of TPC-R, beside those that it has here.
 fn section_6_2() {
     println!("## Document 000, section 6.2");
     println!();
-    let bytes = trials::named("six_joins").query;
-    let table = built(&bytes);
-    let (construction, _) = constructed(&bytes).expect("the trial's query has a table");
-    let rows = [
-        ["without pruning", "376", "80", "3040"].map(str::to_owned),
-        ["with pruning", "38", "24", "912"].map(str::to_owned),
+    let here = |what: &str, name: &str| {
+        let table = built(&trials::named(name).query);
         [
-            "here, six of its joins from two indexes".to_owned(),
-            construction.nodes.len().to_string(),
+            format!("here, {what}"),
             table[0].to_string(),
             table.len().to_string(),
-        ],
+        ]
+    };
+    let rows = [
+        ["without pruning", "80", "3040"].map(str::to_owned),
+        ["with pruning", "24", "912"].map(str::to_owned),
+        here("cut to 8 produced orders and 8 sets", "tpcr_query_8"),
+        here("six of its joins from two indexes", "six_joins"),
     ];
-    report::table(["Query 8 of TPC-R", "Nodes", "States", "Bytes"], &rows);
+    report::table(["Query 8 of TPC-R", "States", "Bytes"], &rows);
 }

@@ -9,7 +9,7 @@ use benchmarks::report::{self, number};
 use benchmarks::timing::Builds;
 use benchmarks::worst::Slowest;
 use reference::builder::table_of;
-use reference::construction::{Construction, Limits};
+use reference::construction::of_pairs;
 use reference::random::Random;
 use reference::Query;
 
@@ -36,7 +36,7 @@ fn main() {
     report::table(
         [
             "Outcome",
-            "Nodes, states",
+            "Pairs",
             "Rows",
             "Proved, µs",
             "Second, µs",
@@ -56,11 +56,9 @@ fn row(query: &Query) -> [String; 6] {
         Ok(table) => ["table".to_owned(), table.states.len().to_string()],
         Err(refusal) => [format!("refused {refusal}"), "none".to_owned()],
     };
-    let counts = Construction::within(query, Limits::COUNTING)
-        .map(|counted| format!("{}, {}", counted.nodes.len(), counted.states.len()));
     [
         outcome,
-        counts.unwrap_or("more than are counted".to_owned()),
+        of_pairs(query).states.len().to_string(),
         rows,
         number(proved / 1000.0),
         number(second / 1000.0),

@@ -6,7 +6,7 @@ use mathlib.Core.List.{map, append-assoc, flatten}
 use lib.ListN.{length}
 use borrow.Author.Tests.{lt-ltb, le-ltb}
 use Rattle.theory.specs.Limits.{maxStates, maxProduced, maxSets, tableSizes, heldWidth}
-use Rattle.theory.specs.Refusals.{passed, space-refused}
+use Rattle.theory.specs.Refusals.{passed, states-refused, space-refused}
 use Rattle.theory.specs.Construction.{sizesOf}
 use Rattle.theory.specs.Query.{Bytes, producedCount, testedCount, setCount, readQuery, queryRefusal}
 use Rattle.theory.specs.Table.{Table, Sized, heldBytes, writeTable}
@@ -41,27 +41,27 @@ pub constructing-refused : (b : Bytes) {work d : Bytes} {k : Constructed} {r : B
 constructing-refused b {work} {d} {k} {r} l f a = go (construct (readQuery b)) (l .answer)
   where
     go : (o : theory.Constructed) → k ≡ construction.answerOf o → Done (delivered o (length d)) d d r
-    go (too-many n) e = done-refused n refl (a ∙ ap (λ (x : Constructed). answerOf (refused (x .refusal))) e)
-    go (table t n) e = absurd (f (ap (λ (x : Constructed). x .refusal) e))
+    go too-many e = done-refused states-refused refl (a ∙ ap (λ (x : Constructed). answerOf (refused (x .refusal))) e)
+    go (table t) e = absurd (f (ap (λ (x : Constructed). x .refusal) e))
 
 -- where constructing is not refused, the scratch has the table that was constructed
-pub holding : (b : Bytes) {work : Bytes} {r : Constructed} → queryRefusal b ≡ passed → Leaves (construct (readQuery b)) work r → r .refusal ≡ passed → Holding b work (r .rows) (r .nodes)
+pub holding : (b : Bytes) {work : Bytes} {r : Constructed} → queryRefusal b ≡ passed → Leaves (construct (readQuery b)) work r → r .refusal ≡ passed → Holding b work (r .rows)
 holding b {work} {r} c l e =
     let t = granted-table b (ap (λ (k : Constructed). k .refusal) (sym (l .answer)) ∙ e) in
-    let same : r ≡ construction.answerOf (table (t .0) (t .1)) = l .answer ∙ ap construction.answerOf (t .2) in
+    let same : r ≡ construction.answerOf (table (t .0)) = l .answer ∙ ap construction.answerOf (t .1) in
     record {
       checked = c;
       contents = t .0;
-      constructed = t .2 ∙ ap (table (t .0)) (sym (ap (λ (k : Constructed). k .nodes) same));
-      stored = l .stored (t .0) (t .1) (t .2);
+      constructed = t .1;
+      stored = l .stored (t .0) (t .1);
       count = sym (ap (λ (k : Constructed). k .rows) same);
     }
 
-module _ {b work : Bytes} {q n : ℕ} (h : Holding b work q n) where
+module _ {b work : Bytes} {q : ℕ} (h : Holding b work q) where
   abbrev contents : Table
   contents = h .contents
 
-  facts : Made (readQuery b) contents n
+  facts : Made (readQuery b) contents
   facts = made (readQuery b) (subst (Constructs (readQuery b)) (h .constructed) (construct-means (readQuery b)))
 
   limits : Limited (sizesOf (readQuery b))
@@ -114,9 +114,9 @@ module _ {b work : Bytes} {q n : ℕ} (h : Holding b work q n) where
         (ap (λ k. delivered k (length d)) (h .constructed) ∙ rw (lt-ltb (length d) (length (writeTable contents)) (subst (λ m. length d < m) size-is l), delivered)) a
 
     pub deliver-whole : (e : ℕ) → e ≡ testedCount b → (d after : Bytes) {size : ℕ} → size ≡ tableSizes + p + q * s + q * heldWidth → size ≤ length d → after ≡ placed 0 (tableIn work q p e s) d →
-        Done (delivered (construct (readQuery b)) (length d)) d after (record { refusal = passed; length = size; nodes = n })
+        Done (delivered (construct (readQuery b)) (length d)) d after (record { refusal = passed; length = size })
     deliver-whole e ee d after {size} same l w =
         let long : size ≡ length (writeTable contents) = same ∙ size-is in
-        done-as {p = built (writeTable contents) n}
+        done-as {p = built (writeTable contents)}
         (ap (λ k. delivered k (length d)) (h .constructed) ∙ rw (le-ltb (length d) (length (writeTable contents)) (subst (λ m. m ≤ length d) long l), delivered))
-        (record { answer = λ i. record { refusal = passed; length = long i; nodes = n }; output = w ∙ ap (λ x. placed 0 x d) (table-in e ee) ∙ placed-first (writeTable contents) d })
+        (record { answer = λ i. record { refusal = passed; length = long i }; output = w ∙ ap (λ x. placed 0 x d) (table-in e ee) ∙ placed-first (writeTable contents) d })

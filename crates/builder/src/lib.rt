@@ -13,11 +13,10 @@ ghost use Rattle.theory.specs.Query.{readQuery, queryRefusal};
 ghost use Rattle.theory.specs.Build.{refused, construct, delivered, outcome, outputAfter, scratchAfter, zeroed};
 ghost use Rattle.builder.specs.Built.{answerOf, Done, Holding};
 
-// What a build answers: the refusal, or 0; and the table's length and the count of nodes, which are 0 on refusal.
+// What a build answers: the refusal, or 0; and the table's length, which is 0 on refusal.
 pub struct Built {
     pub refusal: u8,
     pub length: usize,
-    pub nodes: usize,
 }
 
 fn refused(n: u8) -> Built
@@ -26,13 +25,12 @@ fn refused(n: u8) -> Built
     Built {
         refusal: n,
         length: 0,
-        nodes: 0,
     }
 }
 
 // The constructed table goes into the output, or 9 where that is shorter.
-fn deliver(query: &[u8], work: &[u8], q: usize, n: usize, output: &mut [u8]) -> Built
-    requires { ⌜ Holding (now query) (now work) q n ⌝ }
+fn deliver(query: &[u8], work: &[u8], q: usize, output: &mut [u8]) -> Built
+    requires { ⌜ Holding (now query) (now work) q ⌝ }
     ensures { λ r. ⌜ Done (delivered (construct (readQuery (now (query .entry)))) (length (now (output .entry)))) (now (output .entry)) (now (output .exit)) r ⌝ }
 {
     let p = query::produced(query);
@@ -45,7 +43,6 @@ fn deliver(query: &[u8], work: &[u8], q: usize, n: usize, output: &mut [u8]) -> 
     Built {
         refusal: PASSED,
         length: size,
-        nodes: n,
     }
 }
 
@@ -59,7 +56,7 @@ fn construct_into(query: &[u8], work: &mut [u8], output: &mut [u8]) -> Built
     if refusal != PASSED {
         return refused(refusal);
     }
-    deliver(query, work, made.rows, made.nodes, output)
+    deliver(query, work, made.rows, output)
 }
 
 // The same, and the work memory cleared behind it.
@@ -72,7 +69,7 @@ fn construct_cleared(query: &[u8], work: &mut [u8], output: &mut [u8]) -> Built
     built
 }
 
-// Build the table of a query, whatever its bytes and whatever is lent: checks 1 to 6, then 9 for scratch, 7, 8, and 9 for output.
+// Build the table of a query, whatever its bytes and whatever is lent: checks 1 to 6, then 9 for scratch, 8, and 9 for output.
 pub fn build(query: &[u8], scratch: &mut [u8], output: &mut [u8]) -> Built
     ensures { λ r. ⌜ r ≡ answerOf (outcome (now (query .entry)) (length (now (scratch .entry))) (length (now (output .entry)))) ⌝ }
     ensures { λ r. ⌜ now (output .exit) ≡ outputAfter (now (query .entry)) (length (now (scratch .entry))) (now (output .entry)) ⌝ }

@@ -1,4 +1,2 @@
 -- What the functions of this crate promise, beside the theory.
-pub mod States
-pub mod Held
-pub mod Settled
+pub mod Words

@@ -9,10 +9,10 @@ use Rattle.theory.specs.Query.{Bytes}
 use Rattle.theory.specs.Listing.{decimal, heldLabel, lineEnd}
 use Rattle.byte_rows.specs.Placed.{placed}
 
--- The longest lines, with three digits for each number and five for the held bits: the counts; a start; a state, with its row of successors and its held bits;
+-- The longest lines, with three digits for each number and five for the held bits: the count; a start; a state, with its row of successors and its held bits;
 -- a refusal.
-abbrev pub longestCounts : ℕ
-longestCounts = 21
+abbrev pub longestCount : ℕ
+longestCount = 11
 
 abbrev pub longestStart : ℕ
 longestStart = 14
@@ -36,9 +36,9 @@ longestStarts = 112
 abbrev pub longestStates : ℕ
 longestStates = 7424
 
--- The longest listing: the counts, 8 starts and 128 states.
+-- The longest listing: the count, 8 starts and 128 states.
 abbrev pub longestListing : ℕ
-longestListing = 7557
+longestListing = 7547
 
 -- A piece of at most so many bytes stands at the place, the other bytes are kept, and `behind` is the place behind it.
 pub record Wrote (before : Bytes) (at : ℕ) (piece : Bytes) (most : ℕ) (after : Bytes) (behind : ℕ) : Type 0 where

@@ -1,11 +1,10 @@
 // The listing of a table, written into a lent text.
 ghost use Prim.Native.Nat.{_≤_};
 ghost use lib.ListN.{length};
-ghost use Rattle.theory.specs.Limits.{maxNodes};
 ghost use Rattle.theory.specs.Listing.{refusedLine, tableListing};
 ghost use Rattle.table.specs.Form.{Formed};
 ghost use Rattle.listing.specs.Text.{longestListing, longestRefusal, Printed};
-use lines::counts_line;
+use lines::count_line;
 use lines::start_lines;
 use lines::state_lines;
 use text::number;
@@ -14,12 +13,12 @@ use text::word;
 mod lines;
 mod text;
 
-// The listing of a table with its count of nodes; how many bytes it has. They are the first ones of the text, and the others are kept.
-pub fn list(table: &[u8], nodes: usize, text: &mut [u8]) -> usize
-    requires { ⌜ Formed (now table) × (nodes ≤ maxNodes) × (longestListing ≤ length (now text)) ⌝ }
-    ensures { λ r. ⌜ Printed (now (text .entry)) (tableListing (now (table .entry)) nodes) (now (text .exit)) r ⌝ }
+// The listing of a table; how many bytes it has. They are the first ones of the text, and the others are kept.
+pub fn list(table: &[u8], text: &mut [u8]) -> usize
+    requires { ⌜ Formed (now table) × (longestListing ≤ length (now text)) ⌝ }
+    ensures { λ r. ⌜ Printed (now (text .entry)) (tableListing (now (table .entry))) (now (text .exit)) r ⌝ }
 {
-    let starts = counts_line(table, nodes, text, 0);
+    let starts = count_line(table, text, 0);
     let states = start_lines(table, text, starts);
     state_lines(table, text, states)
 }

@@ -2,11 +2,11 @@
 ghost use mathlib.Core.List.{map, flatten};
 ghost use Prim.Native.Nat.{_+_, _<_, _≤_};
 ghost use lib.ListN.{length};
-ghost use Rattle.theory.specs.Limits.{maxNodes, maxSets};
+ghost use Rattle.theory.specs.Limits.{maxSets};
 ghost use Rattle.theory.specs.Table.{statesIn, producedIn};
-ghost use Rattle.theory.specs.Listing.{spaced, countsLine, startLine, stateLine};
+ghost use Rattle.theory.specs.Listing.{spaced, countLine, startLine, stateLine};
 ghost use Rattle.table.specs.Form.{Formed};
-ghost use Rattle.listing.specs.Text.{longestCounts, longestStart, longestStarts, longestRow, longestHeld, longestState, longestStates, Wrote, lines, heldField};
+ghost use Rattle.listing.specs.Text.{longestCount, longestStart, longestStarts, longestRow, longestHeld, longestState, longestStates, Wrote, lines, heldField};
 use crate::text::number;
 use crate::text::number_of;
 use crate::text::spaced_number;
@@ -17,15 +17,13 @@ use table::produced;
 use table::states;
 use table::successors;
 
-// The counts of states and nodes.
-pub fn counts_line(table: &[u8], nodes: usize, text: &mut [u8], at: usize) -> usize
-    requires { ⌜ (nodes ≤ maxNodes) × (at + longestCounts ≤ length (now text)) ⌝ }
-    ensures { λ r. ⌜ Wrote (now (text .entry)) at (countsLine (now (table .entry)) nodes) longestCounts (now (text .exit)) r ⌝ }
+// The count of states.
+pub fn count_line(table: &[u8], text: &mut [u8], at: usize) -> usize
+    requires { ⌜ at + longestCount ≤ length (now text) ⌝ }
+    ensures { λ r. ⌜ Wrote (now (text .entry)) at (countLine (now (table .entry))) longestCount (now (text .exit)) r ⌝ }
 {
     let first = word(text, at, b"states ");
-    let second = number(text, first, states(table));
-    let third = word(text, second, b" nodes ");
-    let end = number(text, third, nodes);
+    let end = number(text, first, states(table));
     word(text, end, b"\n")
 }
 

@@ -15,7 +15,8 @@ use Rattle.theory.proofs.Reflect.{says-eqb, says-ltb}
 use Rattle.table.specs.Form.{Formed}
 use Rattle.table.proofs.FormLaws.{formed}
 use Rattle.lookup.specs.Answers.{refusalUnit, MoveRefusal, answerCode, decoded}
-use Rattle.lookup.proofs.LookupLaws.{pick-either, form-listed, refusal-some}
+use Rattle.theory.proofs.RefusalLaws.{pick-either}
+use Rattle.lookup.proofs.LookupLaws.{form-listed, refusal-some}
 
 -- a state, which is a byte, or a refusal's number
 pub data Plain : Answer → Type 0 where

@@ -2,7 +2,7 @@
 use Prim.Native.Nat.{ℕ, zero, suc, _<_, _≤_}
 use native.Mathlib.Omega.{arith}
 use mathlib.Core.Path.{_≡_, refl, ap}
-use mathlib.Core.Bool.{Bool, true, false}
+use mathlib.Core.Bool.{Bool}
 use mathlib.Core.Logic.{_⊎_, inl, inr, ⊎-elim}
 use borrow.Author.Tests.{ne-eqb, leb-true}
 use Rattle.theory.specs.Tests.{pick, Says, holds, fails}
@@ -11,6 +11,7 @@ use Rattle.theory.specs.Refusals.{passed, length-refused, size-refused, handle-
 use Rattle.theory.specs.Table as theory
 use Rattle.theory.specs.Table.{Answer, refuse, formRefusal, readRefusal, statesIn, ask}
 use Rattle.theory.proofs.Reflect.{says-eqb, says-ltb}
+use Rattle.theory.proofs.RefusalLaws.{pick-either}
 use Rattle.table.specs.Form.{Formed}
 use Rattle.table.proofs.FormLaws.{formed}
 use Rattle.lookup.specs.Answers.{MoveRefusal, ReadRefusal}
@@ -18,11 +19,6 @@ use Rattle.lookup.specs.Answers.{MoveRefusal, ReadRefusal}
 -- a form that is refused refuses the lookup, whatever it would have answered
 pub form-refuses : (t : Bytes) (a : Answer) {n : ℕ} → n ≡ formRefusal t → (n ≡ passed → ⊥) → refuse n ≡ theory.formed t a
 form-refuses t a {n} e f = rw (← e, ne-eqb n passed f)
-
--- what holds of both holds of the one that is picked
-pub pick-either : {A : Type 0} (P : A → Type 0) (b : Bool) {x y : A} → P x → P y → P (pick b x y)
-pick-either P true p q = p
-pick-either P false p q = q
 
 form-few : (t : Bytes) → formRefusal t ≤ 2
 unfolding formRefusal

@@ -14,8 +14,6 @@ pub const MAX_STATES: usize = 128;
 // Two tables have no more pairs of states than these.
 pub const MAX_PAIRS: usize = 16384;
 
-pub const MAX_NODES: usize = 256;
-
 // An order has at most so many columns.
 pub const MAX_LENGTH: u8 = 4;
 
@@ -42,8 +40,8 @@ pub const LONGEST_TABLE: usize = 1292;
 // A lookup's answer as one number is so many times the refusal's number plus the value.
 pub const REFUSAL_UNIT: u32 = 65536;
 
-// The longest listing: the counts, 21 bytes; 8 starts of 14; and 128 states of 58. The longest line of a refusal.
-pub const LONGEST_LISTING: usize = 7557;
+// The longest listing: the count, 11 bytes; 8 starts of 14; and 128 states of 58. The longest line of a refusal.
+pub const LONGEST_LISTING: usize = 7547;
 
 pub const LONGEST_REFUSAL: usize = 12;
 

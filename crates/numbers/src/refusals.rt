@@ -13,6 +13,7 @@ pub const REPEAT: u8 = 5;
 
 pub const TWIN: u8 = 6;
 
+// Never given.
 pub const ORDERINGS: u8 = 7;
 
 pub const STATES: u8 = 8;

@@ -10,8 +10,5 @@ pub const SUCCESSORS_PART: usize = 4354;
 
 pub const STARTS_PART: usize = 5378;
 
-// The different sets of orderings under one choice, 8 times 32 bytes.
-pub const STATES_PART: usize = 5386;
-
 // Behind a build, in the first bytes: the pairs of states that are reached together, a bit for each of 128 times 128.
 pub const PAIRS_LENGTH: usize = 2048;

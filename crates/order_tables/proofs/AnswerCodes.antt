@@ -22,7 +22,7 @@ use Rattle.order_tables.specs.Codes.{buildCode}
 -- a build's answer
 build-code : (o : Outcome) → answerOf o .refusal * 65536 + answerOf o .length ≡ buildCode o
 build-code (refused n) = omega arith
-build-code (built t n) = omega arith
+build-code (built t) = omega arith
 
 module _ (query : Bytes) (scratch output : ℕ) {r : Built} (a : r ≡ answerOf (outcome query scratch output)) where
   pub build-short : r .length < 65536
@@ -30,7 +30,7 @@ module _ (query : Bytes) (scratch output : ℕ) {r : Built} (a : r ≡ answerOf 
     where
       go : (o : Outcome) → outcome query scratch output ≡ o → answerOf o .length < 65536
       go (refused n) e = omega arith
-      go (built t n) e = omega (arith, formed-short (built-formed (built-facts query scratch output t n e)))
+      go (built t) e = omega (arith, formed-short (built-formed (built-facts query scratch output t e)))
 
   pub build-number : {code : ℕ} → code ≡ r .refusal * 65536 + r .length → code ≡ buildCode (outcome query scratch output)
   build-number e = e ∙ ap (λ b. b .refusal * 65536 + b .length) a ∙ build-code (outcome query scratch output)

@@ -21,7 +21,7 @@ refusedCode n = answerCode (refuse n)
 -- A build's: the table's length, or the refusal.
 abbrev pub buildCode : Outcome → ℕ
 buildCode (refused n) = refusedCode n
-buildCode (built t n) = length t
+buildCode (built t) = length t
 
 -- A listing's: its length, or the refusal.
 abbrev pub listCode : Bytes → ℕ → ℕ → ℕ

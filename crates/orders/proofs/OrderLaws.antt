@@ -1,16 +1,13 @@
 -- Beginnings of orders, the bits of a mask, and orders told apart.
-use Prim.Native.Nat.{ℕ, _-_, _<_, _≤_, _^_, min}
-use native.Mathlib.Nat.{div-eq-of-lt, lt-of-lt-of-le}
+use Prim.Native.Nat.{ℕ, _-_, _<_, min}
 use native.Mathlib.Omega.{arith}
 use mathlib.Core.Path.{_≡_, sym, _∙_, ap}
 use mathlib.Core.Bool.{true, false}
 use mathlib.Core.List.{List, [], _∷_}
-use lib.Pow.{pow-mono}
 use lib.ListN.{length, take, getD, length-take}
 use lib.Seq.{getD-take, ext-getD}
 use Rattle.theory.specs.Orders.{sameOrder}
 use Rattle.theory.proofs.Reflect.{decides-order, true-says, false-says}
-use Rattle.orders.specs.Orders.{inMask}
 
 -- a column of a beginning is the column there
 pub getD-within : (n : ℕ) (l : List ℕ) (i : ℕ) → i < length (take n l) → getD (take n l) i 0 ≡ getD l i 0
@@ -30,10 +27,6 @@ front-of m n k l e =
     ext-getD 0 (take m l) (take n (take k l)) (simp length-take (omega (arith, length-take k l)))
     (λ i h. let below : i < m = omega (arith, length-take m l) in
     getD-take m l i 0 below ∙ sym (getD-take n (take k l) i 0 (omega arith) ∙ getD-take k l i 0 (omega (arith, length-take k l))))
-
--- a number of 16 bits has no column from 16 on as a bit
-pub past-mask : (m c : ℕ) → m < 2 ^ 16 → 16 ≤ c → false ≡ inMask m c
-past-mask m c h l = rw (div-eq-of-lt (lt-of-lt-of-le h (pow-mono l)))
 
 -- two orders are told apart by a column or by their lengths
 module _ (a b : List ℕ) where

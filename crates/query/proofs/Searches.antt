@@ -63,9 +63,6 @@ module _ {A : Type 0} {same : A → A → Bool} (dec : Decides same) where
     pub repeats-none : ((i : ℕ) → i < length l → member same (getD l i d) (take i l) ≡ false) → repeats same l ≡ false
     repeats-none h = false-says (says-repeats dec l) (λ n. n (earlier-distinct d l (λ i b. says-false (says-member dec (getD l i d) (take i l)) (h i b))))
 
-    pub distinct-if : repeats same l ≡ false → Distinct l
-    distinct-if e = earlier-distinct d l (λ i h m. says-false (says-repeats dec l) e (λ r. distinct-earlier d r i h m))
-
   -- the same of the first n that f gives
   module _ (f : ℕ → A) (n : ℕ) where
     earlier-of : (i : ℕ) → i < n → member same (getD (map f (upFrom 0 n)) i (f 0)) (take i (map f (upFrom 0 n))) ≡ member same (f i) (map f (upFrom 0 i))

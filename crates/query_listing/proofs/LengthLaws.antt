@@ -12,7 +12,7 @@ use Rattle.theory.specs.Tests.{pick, upFrom, Says, holds, fails}
 use Rattle.theory.specs.Query.{Bytes, readQuery}
 use Rattle.theory.specs.Table.{statesIn, producedIn, setsIn, startIn, rowIn, wordIn}
 use Rattle.theory.specs.Build.{Outcome, refused, built, outcome}
-use Rattle.theory.specs.Listing.{decimalWithin, decimal, refusedLabel, statesLabel, nodesLabel, startLabel, stateLabel, nextLabel, heldLabel, lineEnd, spaced, countsLine, startLine, stateLine, tableListing, listed, listing}
+use Rattle.theory.specs.Listing.{decimalWithin, decimal, refusedLabel, statesLabel, startLabel, stateLabel, nextLabel, heldLabel, lineEnd, spaced, countLine, startLine, stateLine, tableListing, listed, listing}
 use Rattle.theory.specs.Lookups.{Faithful}
 use Rattle.theory.proofs.Reflect.{says-ltb}
 use Rattle.theory.proofs.ListLaws.{upFrom-length, member-upFrom, getD-member}
@@ -75,19 +75,16 @@ refusal-short : (n : ℕ) → Short (listed (refused n)) 14
 refusal-short n = joined (word refusedLabel) (joined (decimal-short 5 n) (word lineEnd))
 
 -- the lines of a table that was built
-module _ {query t : Bytes} {n : ℕ} (b : Built query t n) where
+module _ {query t : Bytes} (b : Built query t) where
   form : Formed t
   form = built-formed b
 
   faithful : Faithful (readQuery query) t
   faithful = built-faithful b
 
-  counts-short : Short (countsLine t n) 21
-  unfolding countsLine
-  counts-short =
-      joined (word statesLabel)
-      (joined (number (statesIn t) (omega (arith, form .few-states)))
-      (joined (word nodesLabel) (joined (number n (omega (arith, b .made .count-is, b .made .within .few-nodes))) (word lineEnd))))
+  count-short : Short (countLine t) 11
+  unfolding countLine
+  count-short = joined (word statesLabel) (joined (number (statesIn t) (omega (arith, form .few-states))) (word lineEnd))
 
   start-short : (p : ℕ) → p < producedIn t → Short (startLine t p) 14
   unfolding startLine
@@ -113,10 +110,10 @@ module _ {query t : Bytes} {n : ℕ} (b : Built query t n) where
       (joined (some-pieces 8 (rowIn t state) (λ x m. spaced-number x (row-below state x h m)) row)
       (joined (word heldLabel) (joined (decimal-short 5 (wordIn t state)) (word lineEnd))))))
 
-  table-short : Short (tableListing t n) longestListing
+  table-short : Short (tableListing t) longestListing
   unfolding tableListing
   table-short =
-      joined counts-short
+      joined count-short
       (joined (some-pieces 8 (upFrom 0 (producedIn t)) (λ p m. start-short p (omega (arith, member-upFrom 0 (producedIn t) m .1))) (rw upFrom-length (form .few-produced)))
       (some-pieces 128 (upFrom 0 (statesIn t)) (λ state m. state-short state (omega (arith, member-upFrom 0 (statesIn t) m .1))) (rw upFrom-length (form .few-states))))
 
@@ -127,4 +124,4 @@ listing-short query = go (outcome query scratchLength longestTable) refl
   where
     go : (o : Outcome) → outcome query scratchLength longestTable ≡ o → length (listed o) ≤ longestListing
     go (refused n) e = le-trans (refusal-short n .short) (omega arith)
-    go (built t n) e = table-short (built-facts query scratchLength longestTable t n e) .short
+    go (built t) e = table-short (built-facts query scratchLength longestTable t e) .short

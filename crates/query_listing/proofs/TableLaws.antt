@@ -24,19 +24,18 @@ use Rattle.builder.specs.declared.Built as answer
 -- the line of a refusal
 refused-line : (o : Outcome) → answerOf o .refusal ≢ passed → refusedLine (answerOf o .refusal) ≡ listed o
 refused-line (refused n) h = refl
-refused-line (built t n) h = absurd (h refl)
+refused-line (built t) h = absurd (h refl)
 
 -- the listing of a query that checks 1 to 6 refuse is its refusal's line
 pub unpassed-listing : (query : Bytes) → queryRefusal query ≢ passed → refusedLine (queryRefusal query) ≡ listing query
 unfolding listing outcome
 unpassed-listing query h = rw (ne-eqb (queryRefusal query) passed h, outcome)
 
--- A table as the listing takes it: in its form, the nodes counted, and its listing is the query's.
+-- A table as the listing takes it: in its form, and its listing is the query's.
 pub record Shown (query after : Bytes) (r : answer.Built) : Type 0 where
   pub form : Formed (take (r .length) after)
-  pub few : r .nodes ≤ 256
   pub fits : r .length ≤ length after
-  pub same : tableListing (take (r .length) after) (r .nodes) ≡ listing query
+  pub same : tableListing (take (r .length) after) ≡ listing query
 
 -- A build with room for every table.
 abbrev room : Bytes
@@ -62,18 +61,16 @@ module _ (query work : Bytes) (w : length work ≡ scratchLength) {r : answer.Bu
   unfolding listing outputAfter
   table-listing {after} f h = go (granted query scratchLength longestTable (sym refusal-is ∙ h))
     where
-      go : (t : Bytes) × (n : ℕ) × (o ≡ built t n) → Shown query after r
-      go (t, n, e) =
-          let b = built-facts query scratchLength longestTable t n e in
-          let x : r ≡ answerOf (built t n) = answer-is ∙ ap answerOf e in
-          let k : r .nodes ≡ n = ap (λ (x : answer.Built). x .nodes) x in
+      go : (t : Bytes) × (o ≡ built t) → Shown query after r
+      go (t, e) =
+          let b = built-facts query scratchLength longestTable t e in
+          let x : r ≡ answerOf (built t) = answer-is ∙ ap answerOf e in
           let y : after ≡ t ++ drop (length t) room = (rw w at f) ∙ ap (λ p. written p room) e in
           let d : take (r .length) after ≡ t = ap₂ take (ap (λ (x : answer.Built). x .length) x) y ∙ take-at t (drop (length t) room) (length t) refl in
           record {
             form = subst Formed (sym d) (built-formed b);
-            few = omega (arith, b .made .within .few-nodes, b .made .count-is);
             fits = rw (y, length-append) (omega (arith, ap (λ (x : answer.Built). x .length) x));
-            same = ap₂ tableListing d k ∙ ap listed (sym e);
+            same = ap tableListing d ∙ ap listed (sym e);
           }
 
 -- What was printed is the listing, and the memory keeps its length.

@@ -42,7 +42,7 @@ fn write_listing(query: &[u8], work: &mut [u8]) -> usize
         return listing::refused(refusal, work);
     }
     let length = built.length;
-    listing::list(&table[..length], built.nodes, work)
+    listing::list(&table[..length], work)
 }
 
 // A listing, the first n bytes, into the text, or 9 where the text is shorter.
@@ -80,7 +80,7 @@ fn list_cleared(query: &[u8], work: &mut [u8], text: &mut [u8]) -> Listed
     listed
 }
 
-// List a query, whatever its bytes and whatever is lent: checks 1 to 6, whose line is the listing, then 9 for scratch, then 7 and 8, whose line is the listing,
+// List a query, whatever its bytes and whatever is lent: checks 1 to 6, whose line is the listing, then 9 for scratch, then 8, whose line is the listing,
 // and 9 for a text shorter than what is to be printed.
 pub fn list(query: &[u8], scratch: &mut [u8], text: &mut [u8]) -> Listed
     ensures { λ r. ⌜ r ≡ answerOf (listing (now (query .entry))) (listRefusal (now (query .entry)) (length (now (scratch .entry))) (length (now (text .entry)))) ⌝ }

@@ -18,15 +18,15 @@ use Rattle.replay.proofs.ReplayLaws.{answers-run}
 -- A refused build keeps the lookups' bytes.
 kept : (o : Outcome) (lookups : Bytes) → answerOf o .refusal ≢ passed → lookups ≡ lookupsAfter o lookups
 kept (refused n) lookups h = refl
-kept (built t n) lookups h = absurd (h refl)
+kept (built t) lookups h = absurd (h refl)
 
 -- The table of an unrefused build is the output's first bytes.
 record TableFirst (o : Outcome) (output : Bytes) : Type 0 where
   pub room : answerOf o .length ≤ length (written o output)
   pub replays : (lookups : Bytes) → replayed (take (answerOf o .length) (written o output)) 0 lookups ≡ lookupsAfter o lookups
 
-table-first : {o : Outcome} (output : Bytes) → (t : Bytes) × (n : ℕ) × (o ≡ built t n) → TableFirst o output
-table-first output (t, n, e) =
+table-first : {o : Outcome} (output : Bytes) → (t : Bytes) × (o ≡ built t) → TableFirst o output
+table-first output (t, e) =
     subst (λ o. TableFirst o output) (sym e)
     (record {
       room = rw length-append (omega arith);
@@ -37,7 +37,7 @@ table-first output (t, n, e) =
 pub modelled : (query : Bytes) (scratch output : ℕ) (before : Bytes) {after : Bytes} → after ≡ lookupsAfter (outcome query scratch output) before → Modelled query scratch output before after
 modelled query scratch output before k =
     record {
-      answers = λ {t} {n} e {h} {ls} f l p ss. rw (k, e, answers-run, f) (demand-three query scratch output t n e h l ls p ss 0);
+      answers = λ {t} e {h} {ls} f l p ss. rw (k, e, answers-run, f) (demand-three query scratch output t e h l ls p ss 0);
     }
 
 -- What a caller of the builder knows of the table, from the answer r and the output afterwards.

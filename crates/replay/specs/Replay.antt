@@ -48,11 +48,11 @@ replayed t state (kind ∷ handle ∷ bytes) =
 -- The lookups' bytes after a build: kept where it is refused, else answered on the table that it wrote. The state before the first entry is 0.
 abbrev pub lookupsAfter : Outcome → Bytes → Bytes
 lookupsAfter (refused n) lookups = lookups
-lookupsAfter (built t n) lookups = replayed t 0 lookups
+lookupsAfter (built t) lookups = replayed t 0 lookups
 
 -- Demand 3, of running code: `before` holds the lookups, `after` what was handed back. Where the build ends unrefused and the lookups begin with an
 -- entry that is granted, the answers are those of the plain model, which knows the query alone, whatever its position before.
 pub record Modelled (query : Bytes) (scratch output : ℕ) (before after : Bytes) : Type 0 where
-  pub answers : {t : Bytes} {n : ℕ} → outcome query scratch output ≡ built t n →
+  pub answers : {t : Bytes} → outcome query scratch output ≡ built t →
       {h : ℕ} {ls : List Lookup} → lookupsIn before ≡ entry h ∷ ls → h < length (readQuery query .produced) →
       (p : Order) (ss : List ℕ) → Answers (readQuery query) p ss (lookupsIn before) (answersIn after)

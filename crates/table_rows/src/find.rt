@@ -27,22 +27,6 @@ pub fn cut_word(work: &[u8], bits: usize, sets: usize, p: usize, x: usize) -> us
     pair_words::read(work, sets, p, x) as usize % power(bits)
 }
 
-// Whether two pairs give the same row: they hold the same under every choice of further sets.
-fn same_row(work: &[u8], bits: usize, sets: usize, p: usize, m: usize, q: usize, k: usize) -> bool
-    requires { ⌜ (bits ≤ maxProduced + maxTested) × (sets ≤ maxSets) × (p < maxProduced) × (m < 2 ^ sets) × (q < maxProduced) × (k < 2 ^ sets) × (heldPart ≤ length (now work)) ⌝ }
-    ensures { λ r. ⌜ r ≡ sameTree (stateOf bits sets (take heldPart (now (work .entry))) p m) (stateOf bits sets (take heldPart (now (work .entry))) q k) ⌝ }
-{
-    let choices = pair_words::choices(sets);
-    let mut x = 0;
-    while x < choices {
-        if cut_word(work, bits, sets, p, m | x) != cut_word(work, bits, sets, q, k | x) {
-            return false;
-        }
-        x += 1;
-    }
-    true
-}
-
 // A byte as a number.
 pub fn byte(work: &[u8], at: usize) -> usize
     requires { ⌜ at < length (now work) ⌝ }
@@ -51,18 +35,26 @@ pub fn byte(work: &[u8], at: usize) -> usize
     work[at] as usize
 }
 
-// The number of the row that a pair gives; the count where there is none.
+// The number of the row that a pair gives, the one that holds the same under every choice of further sets; the count where there is none.
 pub fn find_row(work: &[u8], bits: usize, sets: usize, count: usize, p: usize, m: usize) -> usize
     requires { ⌜ Pairs sets (now work) count × (bits ≤ maxProduced + maxTested) × (sets ≤ maxSets) × (p < maxProduced) × (m < 2 ^ sets) × (successorsPart ≤ length (now work)) ⌝ }
     ensures { λ r. ⌜ r ≡ position sameTree (stateOf bits sets (take heldPart (now (work .entry))) p m) (rowStates bits sets (now (work .entry)) count) ⌝ }
 {
+    let choices = pair_words::choices(sets);
     let mut i = 0;
-    while i < count {
+    'row: while i < count {
         let at = HELD_PART + i * HELD_WIDTH;
-        if same_row(work, bits, sets, p, m, byte(work, at), byte(work, at + 1)) {
-            return i;
+        let q = byte(work, at);
+        let k = byte(work, at + 1);
+        let mut x = 0;
+        while x < choices {
+            if cut_word(work, bits, sets, p, m | x) != cut_word(work, bits, sets, q, k | x) {
+                i += 1;
+                continue 'row;
+            }
+            x += 1;
         }
-        i += 1;
+        return i;
     }
     count
 }

@@ -3,18 +3,17 @@ use Prim.Native.Nat.{ℕ, _<_}
 use mathlib.Core.Path.{_≡_, sym, _∙_, ap, subst}
 use mathlib.Core.Bool.{Bool, true, false}
 use mathlib.Core.Logic.{⊎-elim, _↔_}
-use mathlib.Core.List.{List, [], _∷_, _++_, List·Memᴰ, List·Memᴰ·head, List·Memᴰ·tail, List·Memᴰ·not-nil, List·Memᴰ·cases-cons, List·Memᴰ·append-cases, List·Memᴰ·eq-of-singleton, Memᴰ·append-left, Memᴰ·append-right, Memᴰ·cast}
+use mathlib.Core.List.{List, [], _∷_, _++_, map, List·Memᴰ, List·Memᴰ·head, List·Memᴰ·tail, List·Memᴰ·not-nil, List·Memᴰ·cases-cons, List·Memᴰ·append-cases, List·Memᴰ·eq-of-singleton, Memᴰ·append-left, Memᴰ·append-right, Memᴰ·cast}
 use lib.Dec.{eqb}
 use lib.ListN.{length, getD}
 use borrow.Author.Tests.{ne-eqb}
 use Rattle.theory.specs.Tests.{member}
-use Rattle.theory.specs.Orders.{Order, sameOrder, Dependency, Query, rulesOf, Reach, Start, whole, After}
+use Rattle.theory.specs.Orders.{Order, Dependency, Query, interesting, rulesOf, Derived, After}
 use Rattle.theory.specs.Choices.{Choice, inForce, withSet, withSets}
-use Rattle.theory.specs.Closure.{closure}
 use Rattle.theory.specs.Machine.{AllBelow, runs}
 use Rattle.theory.specs.AnswerTree.{AnswerTree}
-use Rattle.theory.specs.Construction.{Marks, marks, marked, keptSteps, nodes, startState}
-use Rattle.theory.specs.States.{closeUnder, heldAmong, heldUnder}
+use Rattle.theory.specs.Settled.{isHeld}
+use Rattle.theory.specs.Construction.{heldUnder, answersOf}
 use Rattle.theory.specs.Query.{Bytes, readQuery}
 use Rattle.theory.specs.Table.{machineIn}
 use Rattle.theory.proofs.Reflect.{says-true, true-says, says-member, decides-number}
@@ -23,7 +22,7 @@ use Rattle.theory.proofs.RowLaws.{all-cons}
 use Rattle.theory.proofs.RuleLaws.{from-rules, rules-more, rules-same, reach-wider}
 use Rattle.theory.proofs.ChoiceLaws.{with-other, withs-last, withs-same}
 use Rattle.theory.proofs.AnswerLaws.{tree-same, runs-answers}
-use Rattle.theory.proofs.ConstructionLaws.{machineOf, rowNumber}
+use Rattle.theory.proofs.ConstructionLaws.{stateNumber}
 use Rattle.theory.proofs.DemandThree.{Built}
 use Rattle.theory.proofs.FewestRows.{row-after}
 
@@ -55,7 +54,7 @@ not-empty q s e d m f =
 -- An empty set gives no ordering more.
 pub after-empty : (q : Query) (p : Order) (ss : List ℕ) (s : ℕ) → rulesOf q (s ∷ []) ≡ [] → After q p (s ∷ ss) ≡ After q p ss
 after-empty q p ss s e =
-    ap (λ rs. Reach whole rs (Start p))
+    ap (λ rs. Derived rs p)
     (rules-same (λ k. member eqb k (s ∷ ss)) (λ k. member eqb k ss) (q .dependencies) (λ d m. ap (λ b. elim b [ true ↦ true | false ↦ member eqb (d .set) ss ]) (ne-eqb (d .set) s (not-empty q s e d m))))
 
 -- a set in the midst, and at the beginning
@@ -71,15 +70,15 @@ moved ss s rs k = (
 
 module _ (q : Query) (p : ℕ) where
   abbrev word : Choice → List Bool
-  word c = heldUnder q (nodes q) (getD (q .produced) p []) c
+  word c = heldUnder q (getD (q .produced) p []) c
 
   abbrev arrives : List ℕ → AnswerTree
-  arrives ss = runs (machineOf q) (machineOf q .start p) ss
+  arrives ss = runs (answersOf q) (answersOf q .start p) ss
 
   -- what is held under choices that are the same after two runs
   run-alike : (ss rs : List ℕ) → ((c : Choice) → length c ≡ q .sets → word (withSets c ss) ≡ word (withSets c rs)) → arrives ss ≡ arrives rs
   run-alike ss rs e =
-      let held : ℕ → Choice → List Bool = (λ k c. heldUnder q (nodes q) (getD (q .produced) k []) c) in
+      let held : ℕ → Choice → List Bool = (λ k c. heldUnder q (getD (q .produced) k []) c) in
       runs-answers (q .sets) held p ss ∙ tree-same (q .sets) (λ c. word (withSets c ss)) (λ c. word (withSets c rs)) e ∙ sym (runs-answers (q .sets) held p rs)
 
   run-same : (ss rs : List ℕ) → AllBelow (q .sets) ss → AllBelow (q .sets) rs → ((s : ℕ) → List·Memᴰ s ss ↔ List·Memᴰ s rs) → arrives ss ≡ arrives rs
@@ -87,28 +86,27 @@ module _ (q : Query) (p : ℕ) where
       run-alike ss rs (λ c h. ap word (withs-same c ss rs (λ s i. subst (λ n. s < n) (sym h) (l s i)) (λ s i. subst (λ n. s < n) (sym h) (m s i)) e))
 
   -- an empty set in force gives nothing
-  empty-under : (ms : Marks) (c : Choice) (s : ℕ) → rulesOf q (s ∷ []) ≡ [] → closeUnder q (nodes q) ms (withSet c s) ≡ closeUnder q (nodes q) ms c
-  unfolding closeUnder
-  empty-under ms c s e =
-      ap (λ rs. marks (nodes q) (closure sameOrder (keptSteps q rs) (length (nodes q)) (marked ms (nodes q))))
+  empty-under : (c : Choice) (s : ℕ) → rulesOf q (s ∷ []) ≡ [] → word (withSet c s) ≡ word c
+  empty-under c s e =
+      ap (λ rs. map (λ o. isHeld rs (getD (q .produced) p []) o) (interesting q))
       (rules-same (inForce (withSet c s)) (inForce c) (q .dependencies) (λ d m. with-other c s (d .set) (not-empty q s e d m)))
 
   run-empty : (ss : List ℕ) (s : ℕ) → rulesOf q (s ∷ []) ≡ [] → arrives (s ∷ ss) ≡ arrives ss
   run-empty ss s e =
       run-alike (s ∷ ss) ss
-      (λ c h. ap (λ d. word d) (sym (withs-last c s ss)) ∙ ap (heldAmong q (nodes q)) (empty-under (startState (nodes q) (getD (q .produced) p [])) (withSets c ss) s e))
+      (λ c h. ap (λ d. word d) (sym (withs-last c s ss)) ∙ empty-under (withSets c ss) s e)
 
 -- In a table that a build wrote: from a produced order the same sets, in any order and however often, lead to the same row, ..
-module _ {query t : Bytes} {n : ℕ} (b : Built query t n) (p : ℕ) (h : p < length (readQuery query .produced)) where
+module _ {query t : Bytes} (b : Built query t) (p : ℕ) (h : p < length (readQuery query .produced)) where
   abbrev rowOf : List ℕ → ℕ
   rowOf ss = runs (machineIn t) (machineIn t .start p) ss
 
   pub row-same : (ss rs : List ℕ) → AllBelow (readQuery query .sets) ss → AllBelow (readQuery query .sets) rs → ((s : ℕ) → List·Memᴰ s ss ↔ List·Memᴰ s rs) → rowOf ss ≡ rowOf rs
-  row-same ss rs l m e = row-after b p ss h l ∙ ap (rowNumber (readQuery query)) (run-same (readQuery query) p ss rs l m e) ∙ sym (row-after b p rs h m)
+  row-same ss rs l m e = row-after b p ss h l ∙ ap (stateNumber (readQuery query)) (run-same (readQuery query) p ss rs l m e) ∙ sym (row-after b p rs h m)
 
   -- .. and so does an empty set beside them, wherever it is taken.
   pub row-empty : (ss rs : List ℕ) (s : ℕ) → AllBelow (readQuery query .sets) (ss ++ rs) → s < readQuery query .sets → rulesOf (readQuery query) (s ∷ []) ≡ [] → rowOf (ss ++ (s ∷ rs)) ≡ rowOf (ss ++ rs)
   row-empty ss rs s l k e =
       let more : AllBelow (readQuery query .sets) (s ∷ (ss ++ rs)) = all-cons {P = λ j. j < readQuery query .sets} k l in
       row-same (ss ++ (s ∷ rs)) (s ∷ (ss ++ rs)) (λ j i. more j (moved ss s rs j .0 i)) more (moved ss s rs)
-      ∙ row-after b p (s ∷ (ss ++ rs)) h more ∙ ap (rowNumber (readQuery query)) (run-empty (readQuery query) p (ss ++ rs) s e) ∙ sym (row-after b p (ss ++ rs) h l)
+      ∙ row-after b p (s ∷ (ss ++ rs)) h more ∙ ap (stateNumber (readQuery query)) (run-empty (readQuery query) p (ss ++ rs) s e) ∙ sym (row-after b p (ss ++ rs) h l)

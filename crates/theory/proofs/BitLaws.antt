@@ -1,11 +1,11 @@
 -- The bits of a number with one bit more: bit c is set, and every other is the number's.
-use Prim.Native.Nat.{ℕ, suc, _+_, _-_, _/_, _%_, _^_, _<_, _≤_, max}
+use Prim.Native.Nat.{ℕ, suc, _+_, _-_, _/_, _%_, _^_, _<_, max}
 use native.Mathlib.Nat.{div-eq-of-lt, div-self, mul-div-cancel}
 use native.Mathlib.Omega.{arith}
 use mathlib.Core.Path.{_≡_, sym, _∙_, ap}
 use mathlib.Core.Bool.{Bool, true}
 use mathlib.Core.Logic.{_⊎_, inl, inr, ⊎-elim}
-use lib.Bits.{bitOr, or-step, or-shr, or-add-and, and-le-r}
+use lib.Bits.{bitOr, or-step, or-shr}
 use lib.Dec.{eqb}
 use lib.Pow.{pow-pos, pow-lt, pow-add}
 use borrow.Author.Tests.{eq-eqb}
@@ -13,7 +13,7 @@ use Rattle.theory.specs.Tests.{Says, holds, fails}
 use Rattle.theory.proofs.Reflect.{says-eqb, says-ltb}
 
 -- a bit of two numbers together
-or-bit : (a b k : ℕ) → bitOr a b / 2 ^ k % 2 ≡ max (a / 2 ^ k % 2) (b / 2 ^ k % 2)
+pub or-bit : (a b k : ℕ) → bitOr a b / 2 ^ k % 2 ≡ max (a / 2 ^ k % 2) (b / 2 ^ k % 2)
 or-bit a b k = rw or-shr (omega (arith, or-step (a / 2 ^ k) (b / 2 ^ k)))
 
 -- a power of two has no other bit
@@ -34,10 +34,6 @@ module _ (m c : ℕ) where
 
   pub raised-other : (k : ℕ) → (k ≡ c → ⊥) → bitOr m (2 ^ c) / 2 ^ k % 2 ≡ m / 2 ^ k % 2
   raised-other k n = omega (arith, or-bit m (2 ^ c) k, power-other c k n)
-
-  -- it is not smaller, and no longer than the bit makes it
-  pub raised-more : m ≤ bitOr m (2 ^ c)
-  raised-more = omega (arith, or-add-and m (2 ^ c), and-le-r m (2 ^ c))
 
   -- the same of the bits as tests
   pub raised-has : eqb (bitOr m (2 ^ c) / 2 ^ c % 2) 1 ≡ true

@@ -1,72 +1,49 @@
 -- Constructing, and every outcome of a build, mean what the refusal list says.
-use Prim.Native.Nat.{ℕ, _^_, _≤_, _<_}
+use Prim.Native.Nat.{ℕ, _≤_, _<_}
 use native.Mathlib.Omega.{arith}
-use mathlib.Core.Path.{_≡_, refl, sym, _∙_, ap, subst}
+use mathlib.Core.Path.{_≡_, refl, ap}
 use mathlib.Core.Bool.{Bool, true, false}
-use mathlib.Core.Logic.{_↔_}
-use mathlib.Core.List.{List·Memᴰ}
+use mathlib.Core.Logic.{_≢_, _↔_}
 use lib.Dec.{ltb}
 use lib.ListN.{length}
-use borrow.Author.Tests.{ltb-false, lt-ltb, le-ltb, eq-eqb}
 use Rattle.theory.specs.Tests.{Says, holds, fails}
-use Rattle.theory.specs.Limits.{maxNodes, maxStates, maxSets, scratchLength}
-use Rattle.theory.specs.Orders.{Order, Query}
+use Rattle.theory.specs.Limits.{maxStates, scratchLength}
+use Rattle.theory.specs.Orders.{Query, WellFormed}
 use Rattle.theory.specs.Closure.{More}
-use Rattle.theory.specs.Construction.{Node, nodes}
-use Rattle.theory.specs.States.{State, states, MorePairs}
-use Rattle.theory.specs.Refusals.{passed, orderings-refused, states-refused, space-refused}
-use Rattle.theory.specs.Query.{Bytes, setCount, readQuery, queryRefusal}
-use Rattle.theory.specs.Table.{Table, writeTable}
-use Rattle.theory.specs.Build.{Constructed, too-many, table, queryTable, construct, Constructs, many-orderings, many-states, its-table, Outcome, refused, built, delivered, outcome, Means, query-refused, scratch-short, not-constructed, output-short, table-built}
-use Rattle.theory.proofs.Reflect.{false-says, says-eqb, says-ltb}
-use Rattle.theory.proofs.NodeLaws.{nodes-exactly, nodes-many}
-use Rattle.theory.proofs.StatesListed.{states-many, states-choices}
+use Rattle.theory.specs.Construction.{sizesOf, answersOf, State, MorePairs}
+use Rattle.theory.specs.Refusals.{passed, orderings-refused, space-refused}
+use Rattle.theory.specs.Query.{Bytes, readQuery, queryRefusal}
+use Rattle.theory.specs.Table.{Table, tableOf, walkedTable, writeTable}
+use Rattle.theory.specs.Build.{Constructed, too-many, table, queryTable, construct, Constructs, many-states, its-table, Outcome, refused, built, delivered, outcome, Means, query-refused, scratch-short, not-constructed, output-short, table-built}
+use Rattle.theory.proofs.Reflect.{says-eqb, says-ltb}
+use Rattle.theory.proofs.AnswerLaws.{decides-tree}
+use Rattle.theory.proofs.MachineLaws.{numbered-many}
+use Rattle.theory.proofs.QueryLaws.{query-few}
 use Rattle.theory.proofs.StatePairs.{states-pairs}
-use Rattle.theory.proofs.QueryLaws.{query-sizes, produced-count, set-count}
-
--- where there are not too many nodes, the computed list has exactly the nodes
-pub nodes-listed : (q : Query) → ¬ More maxNodes (Node q) → (o : Order) → List·Memᴰ o (nodes q) ↔ Node q o
-nodes-listed q n = nodes-exactly q (ltb-false maxNodes (length (nodes q)) (false-says (nodes-many q) n))
 
 module _ (q : Query) where
-  -- the checks from the last to the first, each with what comes after it
-  abbrev numbered : Bool → Constructed
-  numbered b = elim b [ true ↦ too-many states-refused | false ↦ table (queryTable q) (length (nodes q)) ]
-
-  abbrev reached : Bool → Constructed
-  reached b = elim b [ true ↦ too-many orderings-refused | false ↦ numbered (ltb maxStates (length (states q (nodes q)))) ]
-
-  numbered-means : ¬ More maxNodes (Node q) → {b : Bool} → Says (More maxStates (State q (nodes q))) b → Constructs q (numbered b)
-  numbered-means n (holds m) = many-states n m
-  numbered-means n (fails m) = its-table n m
-
-  reached-means : {b : Bool} → Says (More maxNodes (Node q)) b → Constructs q (reached b)
-  reached-means (holds n) = many-orderings n
-  reached-means (fails n) = numbered-means n (states-many q (nodes q) (nodes-listed q n) maxStates)
+  -- the table has more states than the limit exactly when there are more
+  many-says : Says (More maxStates (State q)) (ltb maxStates (queryTable q .stateCount))
+  unfolding walkedTable tableOf
+  many-says = numbered-many (answersOf q) (sizesOf q) decides-tree maxStates
 
   -- What is constructed means what the list says.
   pub construct-means : Constructs q (construct q)
   unfolding construct
-  construct-means = reached-means (nodes-many q)
-
-  -- Refusal 8 in the derivation's words: where 7 does not come, it comes exactly when there are more than 128 different pairs of a set of orderings and sets in force.
-  pub eight-exactly : ¬ More maxNodes (Node q) → (construct q ≡ too-many states-refused) ↔ MorePairs q maxStates
-  unfolding construct
-  eight-exactly n =
-      let exact = nodes-listed q n in
-      subst (λ o. (o ≡ too-many states-refused) ↔ MorePairs q maxStates) (sym (ap reached (false-says (nodes-many q) n))) (go exact (states-many q (nodes q) exact maxStates))
+  construct-means = go many-says
     where
-      go : ((o : Order) → List·Memᴰ o (nodes q) ↔ Node q o) → {b : Bool} → Says (More maxStates (State q (nodes q))) b → (numbered b ≡ too-many states-refused) ↔ MorePairs q maxStates
-      go exact (holds m) = (λ e. states-pairs q (nodes q) exact maxStates .0 m, λ p. refl)
-      go exact (fails k) =
-          (λ e. let z : _≡_ {A = ℕ} 0 1 = cc in let f : ⊥ = omega arith in absurd f, λ p. absurd (k (states-pairs q (nodes q) exact maxStates .1 p)))
+      go : {b : Bool} → Says (More maxStates (State q)) b → Constructs q (elim b [ true ↦ too-many | false ↦ table (queryTable q) ])
+      go (holds m) = many-states m
+      go (fails m) = its-table m
 
-  -- Eight sets have 256 choices, and a state for each.
-  pub eight-constructed : q .sets ≡ maxSets → 1 ≤ length (q .produced) → ¬ More maxNodes (Node q) → construct q ≡ too-many states-refused
+  -- Refusal 8 in the derivation's words: it comes exactly when there are more than 128 pairs of a produced order and sets in force no two of which share a row.
+  pub eight-exactly : WellFormed q → (construct q ≡ too-many) ↔ MorePairs q maxStates
   unfolding construct
-  eight-constructed e some n =
-      let all : 256 ≤ length (states q (nodes q)) = subst (λ k. 2 ^ k ≤ length (states q (nodes q))) e (states-choices q (nodes q) (nodes-listed q n) some) in
-      ap reached (false-says (nodes-many q) n) ∙ ap numbered (lt-ltb maxStates (length (states q (nodes q))) (omega arith))
+  eight-exactly formed = go many-says
+    where
+      go : {b : Bool} → Says (More maxStates (State q)) b → (elim b [ true ↦ too-many | false ↦ table (queryTable q) ] ≡ too-many) ↔ MorePairs q maxStates
+      go (holds m) = (λ e. states-pairs q formed maxStates .0 m, λ p. refl)
+      go (fails k) = (λ e. let z : _≡_ {A = ℕ} 0 1 = cc in let f : ⊥ = omega arith in absurd f, λ p. absurd (k (states-pairs q formed maxStates .1 p)))
 
 module _ (query : Bytes) (scratch output : ℕ) where
   abbrev lent : Bool → Outcome
@@ -77,14 +54,14 @@ module _ (query : Bytes) (scratch output : ℕ) where
 
   module _ (c : queryRefusal query ≡ passed) where
     module _ (s : scratchLength ≤ scratch) where
-      written-means : {t : Table} {n : ℕ} → Constructs (readQuery query) (table t n) → {b : Bool} → Says (output < length (writeTable t)) b →
-          Means query scratch output (elim b [ true ↦ refused space-refused | false ↦ built (writeTable t) n ])
+      written-means : {t : Table} → Constructs (readQuery query) (table t) → {b : Bool} → Says (output < length (writeTable t)) b →
+          Means query scratch output (elim b [ true ↦ refused space-refused | false ↦ built (writeTable t) ])
       written-means k (holds h) = output-short c s k h
       written-means k (fails h) = table-built c s k (omega arith)
 
       delivered-means : (k : Constructed) → Constructs (readQuery query) k → Means query scratch output (delivered k output)
-      delivered-means (too-many n) d = not-constructed c s d
-      delivered-means (table t n) d = written-means d (says-ltb output (length (writeTable t)))
+      delivered-means too-many d = not-constructed c s d
+      delivered-means (table t) d = written-means d (says-ltb output (length (writeTable t)))
 
     lent-means : {b : Bool} → Says (scratch < scratchLength) b → Means query scratch output (lent b)
     lent-means (holds h) = scratch-short c h
@@ -99,11 +76,17 @@ module _ (query : Bytes) (scratch output : ℕ) where
   unfolding outcome
   outcome-means = checked-means (says-eqb (queryRefusal query) passed)
 
-  -- A query with eight sets that no earlier check refuses is refused with 8.
-  pub eight-refused : queryRefusal query ≡ passed → scratchLength ≤ scratch → setCount query ≡ maxSets → ¬ More maxNodes (Node (readQuery query)) →
-      outcome query scratch output ≡ refused states-refused
-  unfolding outcome
-  eight-refused c s e n =
-      ap checked (eq-eqb (queryRefusal query) passed c) ∙ ap lent (le-ltb scratch scratchLength s)
-      ∙ ap (λ k. delivered k output)
-      (eight-constructed (readQuery query) (set-count query ∙ e) (subst (λ k. 1 ≤ k) (sym (produced-count query)) (query-sizes query c .some-produced)) n)
+  -- Refusal 7 is never given.
+  pub never-seven : outcome query scratch output ≢ refused orderings-refused
+  never-seven = go (outcome-means)
+    where
+      number : Outcome → ℕ
+      number (refused n) = n
+      number (built t) = passed
+
+      go : {o : Outcome} → Means query scratch output o → o ≢ refused orderings-refused
+      go (query-refused _) e = let n = ap number e in let few = query-few query in omega arith
+      go (scratch-short _ _) e = let n = ap number e in omega arith
+      go (not-constructed _ _ _) e = let n = ap number e in omega arith
+      go (output-short _ _ _ _) e = let n = ap number e in omega arith
+      go (table-built _ _ _ _) e = let n = ap number e in omega arith

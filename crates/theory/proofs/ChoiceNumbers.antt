@@ -1,6 +1,6 @@
 -- Choices and their numbers: the bits of a choice's number are the choice, and a set that comes into force sets its bit.
 use Prim.Native.Nat.{ℕ, zero, suc, _+_, _*_, _/_, _%_, _^_, _<_, _≤_, max}
-use native.Mathlib.Nat.{mod-eq-of-lt, pow-succ', div-one, div-div-eq-div-mul, div-eq-of-lt, le-of-suc-le-suc, not-suc-le-zero, lt-of-lt-of-le}
+use native.Mathlib.Nat.{mod-eq-of-lt, pow-succ', div-one, div-div-eq-div-mul, le-of-suc-le-suc, not-suc-le-zero}
 use native.Mathlib.Numerals.{add-one}
 use native.Mathlib.Omega.{arith}
 use mathlib.Core.Path.{_≡_, refl, sym, _∙_, ap, ap₂}
@@ -10,11 +10,10 @@ use lib.Arith.{bin-ind}
 use lib.Bits.{bitOr, or-step, or-zero-r}
 use lib.Dec.{eqb}
 use lib.ListN.{length, take, getD, length-take}
-use lib.Pow.{mod-pow-add, pow-mono}
-use Rattle.theory.specs.Tests.{Says, holds, fails, bitsOf}
+use lib.Pow.{mod-pow-add}
+use Rattle.theory.specs.Tests.{bitsOf}
 use Rattle.theory.specs.Choices.{Choice, inForce, noSets, withSet}
 use Rattle.theory.specs.Table.{bit, number, heldBytes}
-use Rattle.theory.proofs.Reflect.{says-ltb}
 use Rattle.theory.proofs.RowLaws.{bit-below, bit-tested, eqb-bit, number-fits, number-split}
 
 pub bits-length : (n x : ℕ) → length (bitsOf n x) ≡ n
@@ -60,16 +59,6 @@ in-force-none : (n x s : ℕ) → n ≤ s → inForce (bitsOf n x) s ≡ false
 in-force-none zero x s h = refl
 in-force-none (suc n) x zero h = absurd (not-suc-le-zero h)
 in-force-none (suc n) x (suc s) h = in-force-none n (x / 2) s (le-of-suc-le-suc h)
-
--- Set s is in force where bit s of the choice's number is 1.
-pub in-force-any : (n x : ℕ) → x < 2 ^ n → (s : ℕ) → inForce (bitsOf n x) s ≡ eqb (x / 2 ^ s % 2) 1
-in-force-any n x h s = go (says-ltb s n)
-  where
-    go : {b : Bool} → Says (s < n) b → inForce (bitsOf n x) s ≡ eqb (x / 2 ^ s % 2) 1
-    go (holds l) = bits-entry n x s l
-    go (fails l) =
-        let past : n ≤ s = omega arith in
-        in-force-none n x s past ∙ sym (ap (λ y. eqb (y % 2) 1) (div-eq-of-lt (lt-of-lt-of-le h (pow-mono past))))
 
 -- where no set is in force the number is 0
 pub number-none : (n : ℕ) → number (noSets n) ≡ 0

@@ -15,6 +15,7 @@ use Rattle.theory.specs.Build.{table, Constructs, queryTable, Outcome, r
 use Rattle.theory.specs.Lookups.{Lookup, entry, run, Answers, Faithful}
 use Rattle.theory.proofs.RowTheorem.{row-theorem}
 use Rattle.theory.proofs.QueryLaws.{query-sizes, produced-count, tested-count, set-count}
+use Rattle.theory.proofs.ReadLaws.{query-formed}
 use Rattle.theory.proofs.TableLaws.{round-trip}
 use Rattle.theory.proofs.MachineTable.{Limited}
 use Rattle.theory.proofs.BuildLaws.{outcome-means}
@@ -33,37 +34,35 @@ query-limited query c =
     }
 
 -- What is known where a build gives a table.
-pub record Built (query t : Bytes) (n : ℕ) : Type 0 where
+pub record Built (query t : Bytes) : Type 0 where
   pub checked : queryRefusal query ≡ passed
   pub contents : Table
-  pub made : Made (readQuery query) contents n
+  pub made : Made (readQuery query) contents
   pub bytes-are : t ≡ writeTable contents
 
 -- what follows where a build gives a table: the query passed, there was room, and the table was constructed
-pub built-when : {P : Type 0} (query : Bytes) (scratch output : ℕ) (t : Bytes) (n : ℕ) →
-    ((k : Table) → queryRefusal query ≡ passed → scratchLength ≤ scratch → Constructs (readQuery query) (table k n) → t ≡ writeTable k → P) → outcome query scratch output ≡ built t n → P
-built-when {P} query scratch output t n follows e = go (outcome-means query scratch output) e
+pub built-when : {P : Type 0} (query : Bytes) (scratch output : ℕ) (t : Bytes) →
+    ((k : Table) → queryRefusal query ≡ passed → scratchLength ≤ scratch → Constructs (readQuery query) (table k) → t ≡ writeTable k → P) → outcome query scratch output ≡ built t → P
+built-when {P} query scratch output t follows e = go (outcome-means query scratch output) e
   where
-    never : {m : ℕ} → refused m ≡ built t n → P
+    never : {m : ℕ} → refused m ≡ built t → P
     never d = let z : _≡_ {A = ℕ} 0 1 = cc in let f : ⊥ = omega arith in absurd f
 
-    go : {r : Outcome} → Means query scratch output r → r ≡ built t n → P
+    go : {r : Outcome} → Means query scratch output r → r ≡ built t → P
     go (query-refused _) d = never d
     go (scratch-short _ _) d = never d
     go (not-constructed _ _ _) d = never d
     go (output-short _ _ _ _) d = never d
-    go (table-built {t = k} {n = m} c s x h) d =
-        let count : m ≡ n = cc in
-        follows k c s (subst (λ j. Constructs (readQuery query) (table k j)) count x) cc
+    go (table-built {t = k} c s x h) d = follows k c s x cc
 
-pub built-facts : (query : Bytes) (scratch output : ℕ) (t : Bytes) (n : ℕ) → outcome query scratch output ≡ built t n → Built query t n
-built-facts query scratch output t n =
-    built-when query scratch output t n (λ k c s x e. record { checked = c; contents = k; made = made (readQuery query) x; bytes-are = e })
+pub built-facts : (query : Bytes) (scratch output : ℕ) (t : Bytes) → outcome query scratch output ≡ built t → Built query t
+built-facts query scratch output t =
+    built-when query scratch output t (λ k c s x e. record { checked = c; contents = k; made = made (readQuery query) x; bytes-are = e })
 
 -- A table that a build gives is faithful to the query that its bytes say, passes the table check, and reads back.
-module _ {query t : Bytes} {n : ℕ} (b : Built query t n) where
+module _ {query t : Bytes} (b : Built query t) where
   pub built-faithful : Faithful (readQuery query) t
-  built-faithful = subst (Faithful (readQuery query)) (sym (b .bytes-are)) (made-faithful (query-limited query (b .checked)) (b .made))
+  built-faithful = subst (Faithful (readQuery query)) (sym (b .bytes-are)) (made-faithful (query-limited query (b .checked)) (b .made) (query-formed query (b .checked)))
 
   pub built-passes : tableRefusal t ≡ passed
   built-passes = subst (λ k. tableRefusal k ≡ passed) (sym (b .bytes-are)) (made-passes (query-limited query (b .checked)) (b .made))
@@ -72,7 +71,7 @@ module _ {query t : Bytes} {n : ℕ} (b : Built query t n) where
   built-read-back = ap readTable (b .bytes-are) ∙ round-trip (b .contents) (made-sized (query-limited query (b .checked)) (b .made)) ∙ b .made .table-is
 
 -- Demand 3, one statement over the list: whatever the model's position and the state before, from a granted entry on.
-pub demand-three : (query : Bytes) (scratch output : ℕ) (t : Bytes) (n : ℕ) → outcome query scratch output ≡ built t n →
+pub demand-three : (query : Bytes) (scratch output : ℕ) (t : Bytes) → outcome query scratch output ≡ built t →
     (h : ℕ) → h < length (readQuery query .produced) → (ls : List Lookup) (p : Order) (ss : List ℕ) (state : ℕ) →
     Answers (readQuery query) p ss (entry h ∷ ls) (run t state (entry h ∷ ls))
-demand-three query scratch output t n e = lookup-law (built-faithful (built-facts query scratch output t n e)) (row-theorem (readQuery query))
+demand-three query scratch output t e = lookup-law (built-faithful (built-facts query scratch output t e)) row-theorem

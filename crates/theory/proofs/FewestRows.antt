@@ -1,72 +1,59 @@
--- Document 02, Req 02 and 03, of what a build writes: two states share a row exactly when no run of sets tells them apart, no two rows are alike, no accepted table has
--- fewer rows, and every reduced machine with the same answers has the same table.
+-- Document 02, Req 02, 03 and 05, of what a build writes: two pairs of a produced order and sets in force share a row exactly when no run of sets tells them apart, no two rows
+-- are alike, no accepted table has fewer rows, and every reduced machine with the same answers has the same table. Where the build is refused with 8, no table has the answers.
 use Prim.Native.Nat.{ℕ, _≤_, _<_}
+use native.Mathlib.Omega.{arith}
 use mathlib.Core.Path.{_≡_, sym, _∙_, ap, subst}
 use mathlib.Core.Logic.{_↔_}
 use mathlib.Core.List.{List}
-use lib.ListN.{length, getD}
+use mathlib.Core.Bool.{false}
+use lib.ListN.{length, getD, length-append}
+use lib.Seq.{ext-getD}
 use Rattle.theory.specs.Tests.{Decides}
 use Rattle.theory.specs.Limits.{maxStates}
-use Rattle.theory.specs.Orders.{Query}
-use Rattle.theory.specs.Choices.{Choice}
-use Rattle.theory.specs.Machine.{Machine, AllBelow, Reached, runs, numberedWithin, Alike, Reduced, SameAnswers}
+use Rattle.theory.specs.Orders.{Query, WellFormed}
+use Rattle.theory.specs.Machine.{Machine, AllBelow, runs, numberedWithin, Reduced, SameAnswers}
 use Rattle.theory.specs.AnswerTree.{AnswerTree}
-use Rattle.theory.specs.Construction.{Marks, nodes, sizesOf}
-use Rattle.theory.specs.States.{State, construction, treeOf}
+use Rattle.theory.specs.Closure.{More}
+use Rattle.theory.specs.Construction.{sizesOf, answersOf, State, Pair, ShareRow}
 use Rattle.theory.specs.Refusals.{passed}
 use Rattle.theory.specs.Query.{Bytes, readQuery}
-use Rattle.theory.specs.Table.{tableOf, numbersOf, machineIn, statesIn, writeTable}
-use Rattle.theory.specs.Build.{built, outcome}
+use Rattle.theory.specs.Table.{tableOf, numbersOf, machineIn, statesIn, writeTable, tableRefusal}
+use Rattle.theory.specs.Build.{too-many, construct, Constructs, many-states, built, outcome}
+use Rattle.theory.specs.Lookups.{Faithful}
 use Rattle.theory.specs.Verification.{verifyRefusal}
-use Rattle.theory.proofs.MachineLaws.{Inside}
+use Rattle.theory.proofs.MachineLaws.{Inside, reached-start, reached-runs}
+use Rattle.theory.proofs.Reflect.{says-one}
 use Rattle.theory.proofs.PositionLaws.{position-bound, position-reads}
-use Rattle.theory.proofs.PairLaws.{Covers, covers-after, covers-held, covers-reached, covers-reduced}
+use Rattle.theory.proofs.PairLaws.{Covers, covers-after, covers-reduced}
 use Rattle.theory.proofs.MachineTable.{Limited, bytes-cover}
+use Rattle.theory.proofs.ReadLaws.{query-formed}
 use Rattle.theory.proofs.Faithfulness.{table-checked}
-use Rattle.theory.proofs.StatesListed.{states-cover}
 use Rattle.theory.proofs.AnswerLaws.{decides-tree}
-use Rattle.theory.proofs.ConstructionLaws.{Constructible, exact, machineOf, rowsOf, rowNumber, rows-known, rows-reduced, made-sized, made-numbered, made-sizes, made-cover, made-reduced, made-count, made-smallest, made-only}
+use Rattle.theory.proofs.ConstructionLaws.{statesOf, stateNumber, states-reduced, held-wide, answers-tell, states-known, made-sized, made-numbered, made-sizes, made-cover, made-reduced, made-count, made-smallest, made-only}
+use Rattle.theory.proofs.SmallestTable.{smallest}
+use Rattle.theory.proofs.BuildLaws.{construct-means}
+use Rattle.theory.proofs.StatePairs.{stateOf, has-state, share-same, same-share}
 use Rattle.theory.proofs.DemandThree.{Built, query-limited, built-facts}
-use Rattle.theory.proofs.VerificationLaws.{sizes-are, faithful-same}
+use Rattle.theory.proofs.VerificationLaws.{sizes-are, their-width, faithful-same}
 use Rattle.theory.proofs.SuppliedTables.{faithful-sizes, accepted-facts}
 
--- The row of a state of the construction.
-abbrev pub stateRow : Query → Marks × Choice → ℕ
-stateRow q x = rowNumber q (treeOf q (nodes q) x)
-
--- Two states share a row exactly when no order lookup after any run of sets tells them apart.
-pub states-share : (q : Query) → Constructible q → (x y : Marks × Choice) → State q (nodes q) x → State q (nodes q) y →
-    (stateRow q x ≡ stateRow q y) ↔ Alike (sizesOf q) (construction q (nodes q)) x y
-states-share q within x y r u =
-    let m = construction q (nodes q) in
-    let cover = states-cover q (nodes q) (exact q within) in
-    let held = covers-held m (machineOf q) cover in (
-      λ e ss b. held x r ss b ∙ ap (λ t. machineOf q .held (runs (machineOf q) t ss)) (one-tree (treeOf q (nodes q) x) (treeOf q (nodes q) y) (covers-reached m (machineOf q) cover x r) (covers-reached m (machineOf q) cover y u) e) ∙ sym (held y u ss b),
-      λ a. ap (rowNumber q) (rows-reduced q (treeOf q (nodes q) x) (treeOf q (nodes q) y) (covers-reached m (machineOf q) cover x r) (covers-reached m (machineOf q) cover y u) (λ ss b. sym (held x r ss b) ∙ a ss b ∙ held y u ss b)),
-    )
-  where
-    reads : (t : AnswerTree) → Reached (machineOf q) (sizesOf q) t → getD (rowsOf q) (rowNumber q t) t ≡ t
-    reads t v = position-reads decides-tree t t (rowsOf q) (position-bound decides-tree t (rowsOf q) (rows-known q within .exactly t .1 v))
-
-    one-tree : (t w : AnswerTree) → Reached (machineOf q) (sizesOf q) t → Reached (machineOf q) (sizesOf q) w → rowNumber q t ≡ rowNumber q w → t ≡ w
-    one-tree t w v k e =
-        sym (reads t v) ∙ ap (λ n. getD (rowsOf q) n t) e
-        ∙ position-reads decides-tree w t (rowsOf q) (position-bound decides-tree w (rowsOf q) (rows-known q within .exactly w .1 k))
-
-module _ {query t : Bytes} {n : ℕ} (b : Built query t n) where
+module _ {query t : Bytes} (b : Built query t) where
   abbrev q : Query
   q = readQuery query
 
   limits : Limited (sizesOf q)
   limits = query-limited query (b .checked)
 
+  formed : WellFormed q
+  formed = query-formed query (b .checked)
+
   rows-written : statesIn t ≡ b .contents .stateCount
   unfolding writeTable
   rows-written = ap statesIn (b .bytes-are)
 
-  -- What is written has a row for each tree of answers that is reached, and the nodes are counted before merging.
-  pub built-counts : (statesIn t ≡ length (rowsOf q)) × (n ≡ length (nodes q))
-  built-counts = (rows-written ∙ made-count limits (b .made), b .made .count-is)
+  -- What is written has a row for each state.
+  pub built-count : statesIn t ≡ length (statesOf q)
+  built-count = rows-written ∙ made-count limits (b .made)
 
   -- the bytes say the table's numbers
   written-cover : Covers (sizesOf q) (numbersOf (b .contents)) (machineIn t) (λ x. x)
@@ -79,24 +66,62 @@ module _ {query t : Bytes} {n : ℕ} (b : Built query t n) where
   pub built-reduced : Reduced (sizesOf q) (machineIn t)
   built-reduced = covers-reduced (numbersOf (b .contents)) (machineIn t) written-cover (made-reduced limits (b .made))
 
-  -- The row at which a run of sets arrives is the number of its tree of answers.
+  -- The row at which a run of sets arrives is the number of its state.
   pub row-after : (p : ℕ) (ss : List ℕ) → p < length (q .produced) → AllBelow (q .sets) ss →
-      runs (machineIn t) (machineIn t .start p) ss ≡ rowNumber q (runs (machineOf q) (machineOf q .start p) ss)
+      runs (machineIn t) (machineIn t .start p) ss ≡ stateNumber q (runs (answersOf q) (answersOf q .start p) ss)
   row-after p ss h l =
-      sym (covers-after (numbersOf (b .contents)) (machineIn t) written-cover p ss h l) ∙ sym (covers-after (machineOf q) (numbersOf (b .contents)) (made-cover limits (b .made)) p ss h l)
+      sym (covers-after (numbersOf (b .contents)) (machineIn t) written-cover p ss h l) ∙ sym (covers-after (answersOf q) (numbersOf (b .contents)) (made-cover limits (b .made)) p ss h l)
+
+  -- the row of a pair
+  abbrev rowOf : Pair q → ℕ
+  rowOf x = runs (machineIn t) (machineIn t .start (x .order)) (x .sets)
+
+  reads : (x : Pair q) (d : AnswerTree) → getD (statesOf q) (stateNumber q (stateOf q formed x)) d ≡ stateOf q formed x
+  reads x d =
+      position-reads decides-tree (stateOf q formed x) d (statesOf q)
+      (position-bound decides-tree (stateOf q formed x) (statesOf q) (states-known q (b .made .few) .exactly (stateOf q formed x) .1 (has-state q formed x)))
+
+  -- Two pairs share a row exactly when no order lookup after any run of sets tells them apart.
+  pub rows-share : (x y : Pair q) → (rowOf x ≡ rowOf y) ↔ ShareRow q x y
+  rows-share x y =
+      let rowX = row-after (x .order) (x .sets) (x .produced) (x .below) in
+      let rowY = row-after (y .order) (y .sets) (y .produced) (y .below) in
+      let d = stateOf q formed x in (
+        λ e. same-share q formed x y (sym (reads x d) ∙ ap (λ n. getD (statesOf q) n d) (sym rowX ∙ e ∙ rowY) ∙ reads y d),
+        λ s. rowX ∙ ap (stateNumber q) (share-same q formed x y s) ∙ sym rowY,
+      )
 
   -- Every reduced machine with the same answers has the same table.
   pub built-only : {X : Type 0} (k : Machine X) → Decides (k .same) → Reduced (sizesOf q) k → length (numberedWithin k maxStates (sizesOf q)) ≤ maxStates →
       SameAnswers (sizesOf q) (numbersOf (b .contents)) k → t ≡ writeTable (tableOf k (sizesOf q) (numberedWithin k maxStates (sizesOf q)))
   built-only k decides reduced few same = b .bytes-are ∙ ap writeTable (made-only limits (b .made) k decides reduced few same)
 
+-- Where there are too many states, no table that passes the table check has the query's answers.
+pub eight-none : (q : Query) → WellFormed q → construct q ≡ too-many → (t : Bytes) → tableRefusal t ≡ passed → ¬ Faithful q t
+eight-none q formed e t passes f =
+    let sizes = faithful-sizes f in
+    let c = table-checked t passes in
+    let m = many (subst (Constructs q) e (construct-means q)) in
+    let least =
+    smallest (sizesOf q) (answersOf q) (states-reduced q) (machineIn t) (statesIn t) (subst (λ z. Inside (machineIn t) z (statesIn t)) (sizes-are q t sizes) (c .inside))
+    (λ p ss h b.
+    let w = held-wide q _ (reached-runs (answersOf q) (sizesOf q) ss b (answersOf q .start p) (reached-start (answersOf q) (sizesOf q) p h)) ∙ sym (length-append (q .produced) (q .tested)) in
+    ext-getD false _ _ (w ∙ sym (their-width q t sizes (runs (machineIn t) (machineIn t .start p) ss)))
+    (λ i l. let k = subst (λ n. i < n) w l in says-one (answers-tell q formed p i ss h b k) (f .tells p i ss h b k)))
+    (m .things) (m .different) (m .each) in
+    let h = m .many in
+    omega (arith, least, c .few)
+  where
+    many : Constructs q too-many → More maxStates (State q)
+    many (many-states m) = m
+
 -- No table that is accepted for the query has fewer rows than the one that is built.
-pub fewest-rows : (query t u : Bytes) (scratch output n : ℕ) → outcome query scratch output ≡ built t n → verifyRefusal query u scratch ≡ passed → statesIn t ≤ statesIn u
-fewest-rows query t u scratch output n e v =
-    let b = built-facts query scratch output t n e in
+pub fewest-rows : (query t u : Bytes) (scratch output : ℕ) → outcome query scratch output ≡ built t → verifyRefusal query u scratch ≡ passed → statesIn t ≤ statesIn u
+fewest-rows query t u scratch output e v =
+    let b = built-facts query scratch output t e in
     let a = accepted-facts query u scratch v in
     let sizes = faithful-sizes (a .faithful) in
     subst (λ k. k ≤ statesIn u) (sym (rows-written b))
     (made-smallest (limits b) (b .made) (machineIn u) (statesIn u)
     (subst (λ z. Inside (machineIn u) z (statesIn u)) (sizes-are (readQuery query) u sizes) (table-checked u (a .passes) .inside))
-    (faithful-same (limits b) (b .made) u (a .passes) sizes (a .faithful)))
+    (faithful-same (formed b) (limits b) (b .made) u (a .passes) sizes (a .faithful)))

@@ -55,12 +55,12 @@ module _ {A : Type 0} where
       (distinct-snoc d (λ m. n (List·Memᴰ·tail m)))
 
   -- a list around one of its elements
-  record Around (x : A) (l : List A) : Type 0 where
-    front : List A
-    back : List A
-    whole : l ≡ front ++ (x ∷ back)
+  pub record Around (x : A) (l : List A) : Type 0 where
+    pub front : List A
+    pub back : List A
+    pub whole : l ≡ front ++ (x ∷ back)
 
-  around : {x : A} {l : List A} → List·Memᴰ x l → Around x l
+  pub around : {x : A} {l : List A} → List·Memᴰ x l → Around x l
   around (List·Memᴰ·head {xs} e) = record { front = []; back = xs; whole = ap (λ y. y ∷ xs) (sym e) }
   around (List·Memᴰ·tail {x = y} m) = let r = around m in record { front = y ∷ r .front; back = r .back; whole = ap (λ l. y ∷ l) (r .whole) }
 

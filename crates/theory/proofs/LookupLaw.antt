@@ -9,7 +9,7 @@ use lib.Dec.{ltb}
 use lib.ListN.{length, getD, length-append}
 use borrow.Author.Tests.{lt-ltb, le-ltb}
 use Rattle.theory.specs.Tests.{pick, Says, holds, fails}
-use Rattle.theory.specs.Orders.{Order, Query, interesting, After}
+use Rattle.theory.specs.Orders.{Order, Rule, Query, interesting, rulesOf, Derived}
 use Rattle.theory.specs.Rows.{HoldsOfRows}
 use Rattle.theory.specs.Refusals.{passed, handle-refused}
 use Rattle.theory.specs.Machine.{AllBelow, runs}
@@ -88,7 +88,7 @@ module _ {q : Query} {t : Bytes} (f : Faithful q t) where
   at-below = inside-after stays
 
   -- the row theorem is handed in
-  module _ (rows : (p : Order) (ss : List ℕ) (o : Order) → After q p ss o → HoldsOfRows q p ss o) where
+  module _ (rows : (rs : List Rule) (p o : Order) → Derived rs p o → HoldsOfRows rs p o) where
     -- from that state on, every list of lookups gets the model's answers
     law : (p : ℕ) (ss : List ℕ) → p < producedIn t → AllBelow (setsIn t) ss → (ls : List Lookup) →
         Answers q (getD (q .produced) p []) ss ls (run t (at p ss) ls)
@@ -107,11 +107,11 @@ module _ {q : Query} {t : Bytes} (f : Faithful q t) where
         below-or-not i interesting-size
         (λ l m. let e = f .tells p i ss (subst (λ n. p < n) (f .produced-size) h) (subst (λ n. AllBelow n ss) (f .sets-size) b) m in
         rw (ask-granted-is t (f .form) (at p ss) i (at-below p ss h b) l, held-listed t (at p ss) i l)
-        (ask-granted m e (λ y. rows (getD (q .produced) p []) ss (getD (interesting q) i []) (says-true e y)) (law p ss h b ls)))
+        (ask-granted m e (λ y. rows (rulesOf q ss) (getD (q .produced) p []) (getD (interesting q) i []) (says-true e y)) (law p ss h b ls)))
         (λ l m. rw (ask-refused-is t (f .form) (at p ss) i l) (ask-refused m (law p ss h b ls)))
 
   -- a granted entry brings any state, and any model, to such a state, so a list that begins with one gets the model's answers throughout
-  pub lookup-law : ((p : Order) (ss : List ℕ) (o : Order) → After q p ss o → HoldsOfRows q p ss o) →
+  pub lookup-law : ((rs : List Rule) (p o : Order) → Derived rs p o → HoldsOfRows rs p o) →
       (h : ℕ) → h < length (q .produced) → (ls : List Lookup) (p : Order) (ss : List ℕ) (state : ℕ) →
       Answers q p ss (entry h ∷ ls) (run t state (entry h ∷ ls))
   lookup-law rows h l ls p ss state =

@@ -4,13 +4,15 @@ use native.Mathlib.Omega.{arith}
 use mathlib.Core.Path.{_≡_, refl, _∙_, ap, subst}
 use mathlib.Core.Logic.{_↔_}
 use mathlib.Core.List.{List, [], _∷_, _++_, map, List·Memᴰ, List·Memᴰ·head, List·Memᴰ·tail, List·Memᴰ·not-nil, Memᴰ·map, Memᴰ·of-map}
+use lib.Dec.{ltb}
 use lib.ListN.{length}
-use Rattle.theory.specs.Tests.{Decides, Distinct, upFrom}
-use Rattle.theory.specs.Closure.{Found, first, next}
+use Rattle.theory.specs.Tests.{Says, Decides, Distinct, upFrom}
+use Rattle.theory.specs.Closure.{Found, first, next, More}
 use Rattle.theory.specs.Machine.{Sizes, Machine, AllBelow, runs, Reached, numberedWithin}
+use Rattle.theory.proofs.Reflect.{says-as}
 use Rattle.theory.proofs.ListLaws.{member-upFrom, upFrom-member}
 use Rattle.theory.proofs.RowLaws.{all-snoc}
-use Rattle.theory.proofs.ClosureLaws.{closure-distinct, closure-found, closure-complete, closure-few}
+use Rattle.theory.proofs.ClosureLaws.{more-as, closure-distinct, closure-found, closure-complete, closure-many, closure-few}
 
 -- no set, one set more in front, and one more behind
 pub below-nil : (n : ℕ) → AllBelow n []
@@ -27,6 +29,11 @@ module _ {X : Type 0} (m : Machine X) where
   pub runs-snoc : (x : X) (ss : List ℕ) (s : ℕ) → runs m x (ss ++ (s ∷ [])) ≡ m .next (runs m x ss) s
   runs-snoc x [] s = refl
   runs-snoc x (r ∷ ss) s = runs-snoc (m .next x r) ss s
+
+  -- a run after a run is one run
+  pub runs-append : (x : X) (ss rs : List ℕ) → runs m x (ss ++ rs) ≡ runs m (runs m x ss) rs
+  runs-append x [] rs = refl
+  runs-append x (s ∷ ss) rs = runs-append (m .next x s) ss rs
 
   module _ (z : Sizes) where
     -- the starts are reached, and so is what follows from a reached state
@@ -86,6 +93,11 @@ module _ {X : Type 0} (m : Machine X) where
       pub numbered-distinct : Distinct (numberedWithin m cap z)
       unfolding numberedWithin
       numbered-distinct = closure-distinct decides moves cap starts
+
+      -- past it exactly when there are more
+      pub numbered-many : Says (More cap (Reached m z)) (ltb cap (length (numberedWithin m cap z)))
+      unfolding numberedWithin
+      numbered-many = says-as (more-as found-reached) (more-as reached-found) (closure-many decides moves cap starts)
 
       -- it is within the limit where all reached states are in a list that is
       pub numbered-few : (xs : List X) → length xs ≤ cap → ((x : X) → Reached m z x → List·Memᴰ x xs) → length (numberedWithin m cap z) ≤ cap

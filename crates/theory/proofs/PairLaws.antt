@@ -50,17 +50,6 @@ module _ {X Y : Type 0} {z : Sizes} (m : Machine X) (k : Machine Y) {f : X → Y
   pub covers-arrives : (x : Y) (r : Reached k z x) → f (runs m (m .start (r .order)) (r .sets)) ≡ x
   covers-arrives x r = covers-after (r .order) (r .sets) (r .produced) (r .below) ∙ r .arrives
 
-  -- What is reached in the one goes to what is reached in the other.
-  pub covers-reached : (x : X) → Reached m z x → Reached k z (f x)
-  covers-reached x r =
-      record {
-        order = r .order;
-        produced = r .produced;
-        sets = r .sets;
-        below = r .below;
-        arrives = sym (covers-after (r .order) (r .sets) (r .produced) (r .below)) ∙ ap f (r .arrives);
-      }
-
   -- Where it is reduced, so is the second.
   pub covers-reduced : Reduced z m → Reduced z k
   covers-reduced reduced x y r u a =

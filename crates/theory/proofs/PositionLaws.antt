@@ -1,21 +1,20 @@
 -- The number of a thing in a list: where it stands, that it stays when the list grows, and that it is the same among the images of things told apart by them. Adding a thing to a list gives a new one the next number; things added one after the other.
 use Prim.Native.Nat.{ℕ, zero, suc, _+_, _<_, _≤_, zero-le, suc-le-suc}
-use native.Mathlib.Nat.{not-suc-le-zero, le-of-suc-le-suc, lt-of-lt-of-le}
+use native.Mathlib.Nat.{not-suc-le-zero, le-of-suc-le-suc}
 use native.Mathlib.Omega.{arith}
 use mathlib.Core.Path.{_≡_, refl, sym, _∙_, ap}
 use mathlib.Core.Bool.{Bool, true, false}
 use mathlib.Core.Logic.{⊎-elim}
-use mathlib.Core.List.{List, [], _∷_, _++_, map, map-append, List·Memᴰ, List·Memᴰ·head, List·Memᴰ·tail, List·Memᴰ·not-nil, List·Memᴰ·cases-cons, Memᴰ·map, Memᴰ·of-map, Memᴰ·cast, IsPrefix, append-nil, append-assoc, List·Memᴰ·eq-of-singleton}
+use mathlib.Core.List.{List, [], _∷_, _++_, map, List·Memᴰ, List·Memᴰ·head, List·Memᴰ·tail, List·Memᴰ·not-nil, List·Memᴰ·cases-cons, Memᴰ·cast, IsPrefix, append-nil, append-assoc, List·Memᴰ·eq-of-singleton}
 use lib.Dec.{ltb}
-use lib.ListN.{length, take, drop, getD}
-use lib.Seq.{take-length, length-take-le, getD-take, drop-cons}
+use lib.ListN.{length, take, getD}
+use lib.Seq.{take-length}
 use borrow.Author.Count.{below-none, below-more}
 use Rattle.theory.specs.Tests.{Says, holds, fails, Decides, member, position, Distinct, also}
 use Rattle.theory.specs.Closure.{add, addAll}
 use Rattle.theory.proofs.Reflect.{says-member, says-ltb, says-as, says-one, true-says, false-says}
 use Rattle.theory.proofs.ListLaws.{member-getD, Within}
-use Rattle.theory.proofs.RowLaws.{all-snoc, all-append}
-use Rattle.theory.proofs.ClosureLaws.{add-ind}
+use Rattle.theory.proofs.RowLaws.{all-append}
 
 -- a search passed the first i things: none of them is x
 pub record Unmet {A : Type 0} (x : A) (l : List A) (d : A) (i : ℕ) : Type 0 where
@@ -99,9 +98,6 @@ module _ {A : Type 0} {same : A → A → Bool} (dec : Decides same) (x : A) whe
       pub unmet-found : i < length l → getD l i d ≡ x → i ≡ position same x l
       unmet-found h e = sym (position-is l i d (u .within) (u .before) (λ b. sym e))
 
-  pub position-within : (l : List A) → position same x l ≤ length l
-  position-within l = spot-within (spot l)
-
   -- what stands there is the thing, where it is below the length
   pub position-reads : (d : A) (l : List A) → position same x l < length l → getD l (position same x l) d ≡ x
   position-reads d l h = spot-reads d (spot l) h
@@ -109,10 +105,6 @@ module _ {A : Type 0} {same : A → A → Bool} (dec : Decides same) (x : A) whe
   -- a thing stands among the first k exactly when its number is below k, and in the list exactly when it is below the length
   pub position-below : (k : ℕ) (l : List A) → List·Memᴰ x (take k l) → position same x l < k
   position-below k l m = spot-below k (spot l) m
-
-  pub below-position : (k : ℕ) (l : List A) → position same x l < k → k ≤ length l → List·Memᴰ x (take k l)
-  below-position k l h e =
-      Memᴰ·cast (sym (getD-take k l (position same x l) x h ∙ position-reads x l (lt-of-lt-of-le h e))) (member-getD (take k l) (position same x l) x (rw (length-take-le k l e) h))
 
   pub position-bound : (l : List A) → List·Memᴰ x l → position same x l < length l
   position-bound l m = position-below (length l) l (rw take-length m)
@@ -122,11 +114,6 @@ module _ {A : Type 0} {same : A → A → Bool} (dec : Decides same) (x : A) whe
 
   pub position-tells : (l : List A) → ltb (position same x l) (length l) ≡ member same x l
   position-tells l = says-one (says-as (position-member l) (position-bound l) (says-ltb (position same x l) (length l))) (says-member dec x l)
-
-  pub position-splits : (l : List A) → List·Memᴰ x l → drop (position same x l) l ≡ x ∷ drop (suc (position same x l)) l
-  position-splits l m =
-      let h = position-bound l m in
-      drop-cons l (position same x l) x h ∙ ap (λ y. y ∷ drop (suc (position same x l)) l) (position-reads x l h)
 
   -- a longer list gives a thing that it had the same number
   pub position-grows : (l : List A) {m : List A} → IsPrefix l m → List·Memᴰ x l → position same x m ≡ position same x l
@@ -142,10 +129,6 @@ module _ {A : Type 0} {same : A → A → Bool} (dec : Decides same) (x : A) whe
   pub position-new : (l : List A) → ¬ List·Memᴰ x l → position same x (l ++ (x ∷ [])) ≡ length l
   position-new l n = spot-one (spot (l ++ (x ∷ []))) (spot-new l n)
 
-  -- what holds of all and of the thing added holds of all then
-  pub add-all : {P : A → Type 0} (l : List A) → ((y : A) → List·Memᴰ y l → P y) → P x → (y : A) → List·Memᴰ y (add same l x) → P y
-  add-all {P} l h p = add-ind dec (λ k. (y : A) → List·Memᴰ y k → P y) x h (λ n. all-snoc l h p)
-
 -- f tells x from the things of a list
 module _ {A B : Type 0} {same : A → A → Bool} {sameB : B → B → Bool} (dec : Decides same) (decB : Decides sameB) (f : A → B) (x : A) where
   abbrev ToldApart : List A → Type 0
@@ -158,15 +141,6 @@ module _ {A B : Type 0} {same : A → A → Bool} {sameB : B → B → Bool} (de
 
   pub position-map : (l : List A) → ToldApart l → position sameB (f x) (map f l) ≡ position same x l
   position-map l t = spot-one (spot decB (f x) (map f l)) (spot-map (spot dec x l) t)
-
-  pub add-map : (l : List A) → ToldApart l → add sameB (map f l) (f x) ≡ map f (add same l x)
-  add-map l t = go (says-member dec x l)
-    where
-      go : {b : Bool} → Says (List·Memᴰ x l) b → add sameB (map f l) (f x) ≡ map f (elim b as (λ (c : Bool). List A) [ true ↦ l | false ↦ l ++ (x ∷ []) ])
-      go (holds m) = add-known decB (f x) (map f l) (Memᴰ·map f m)
-      go (fails n) =
-          add-new decB (f x) (map f l) (λ m. let r = Memᴰ·of-map f l m in n (Memᴰ·cast (t (r .0) (r .1) (sym (r .2))) (r .1)))
-          ∙ sym (map-append f l (x ∷ []))
 
 module _ {A : Type 0} {same : A → A → Bool} (dec : Decides same) where
   -- things that are there, and different things none of which is there, added one after the other

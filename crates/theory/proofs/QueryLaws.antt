@@ -1,15 +1,15 @@
 -- The sizes of a query, and their limits where it passes checks 1 to 6.
-use Prim.Native.Nat.{_+_, _*_, _≤_}
+use Prim.Native.Nat.{ℕ, zero, suc, _+_, _*_, _≤_}
 use native.Mathlib.Omega.{arith}
 use mathlib.Core.Path.{_≡_, refl}
 use lib.Dec.{ltb, eqb}
 use lib.ListN.{length}
-use borrow.Author.Tests.{ltb-false, eqb-true}
+use borrow.Author.Tests.{ltb-false, eqb-true, leb-true}
 use Rattle.theory.specs.Limits.{maxColumns, maxProduced, maxTested, maxSets, maxDependencies, querySizes, itemWidth}
-use Rattle.theory.specs.Refusals.{passed, firstRefusal, firstOf}
-use Rattle.theory.specs.Query.{Bytes, columnCount, producedCount, testedCount, setCount, dependencyCount, itemCount, orderAt, readQuery, outside, sizesRefusal, itemRefusal, twinRefusal, queryRefusal}
+use Rattle.theory.specs.Refusals.{passed, twin-refused, firstRefusal, firstOf}
+use Rattle.theory.specs.Query.{Bytes, columnCount, producedCount, testedCount, setCount, dependencyCount, itemCount, orderAt, readQuery, outside, sizesRefusal, bodyRefusal, orderRefusal, dependencyRefusal, itemRefusal, twinRefusal, queryRefusal}
 use Rattle.theory.proofs.RangeLaws.{entry-count}
-use Rattle.theory.proofs.RefusalLaws.{refused-then, refused-else, neither, or-passed}
+use Rattle.theory.proofs.RefusalLaws.{refused-then, refused-else, pick-either, neither, or-passed}
 
 -- The sizes are within their limits, and the bytes are as many as they imply.
 pub record SizesFit (b : Bytes) : Type 0 where
@@ -48,6 +48,29 @@ sizes-fit b e =
 pub query-sizes : (b : Bytes) → queryRefusal b ≡ passed → SizesFit b
 unfolding queryRefusal
 query-sizes b e = sizes-fit b (or-passed (sizesRefusal b) (firstRefusal (firstOf (itemRefusal b) (itemCount b)) (twinRefusal b)) e .0)
+
+-- No check of a query refuses with more than 6.
+abbrev Few : ℕ → Type 0
+Few n = n ≤ twin-refused
+
+items-few : (check : ℕ → ℕ) → ((i : ℕ) → Few (check i)) → (n : ℕ) → Few (firstOf check n)
+items-few check few zero = omega arith
+items-few check few (suc n) = pick-either Few (eqb (firstOf check n) passed) (few n) (items-few check few n)
+
+item-few : (b : Bytes) (i : ℕ) → Few (itemRefusal b i)
+unfolding itemRefusal orderRefusal dependencyRefusal bodyRefusal
+item-few b i = search (pick-either Few, leb-true, refl) depth 12
+
+sizes-few : (b : Bytes) → Few (sizesRefusal b)
+unfolding sizesRefusal
+sizes-few b = search (pick-either Few, leb-true, refl) depth 12
+
+pub query-few : (b : Bytes) → Few (queryRefusal b)
+unfolding queryRefusal twinRefusal
+query-few b =
+    let items = items-few (itemRefusal b) (item-few b) (itemCount b) in
+    let twins : Few (twinRefusal b) = search (pick-either Few, leb-true, refl) in
+    pick-either Few (eqb (sizesRefusal b) passed) (pick-either Few (eqb (firstOf (itemRefusal b) (itemCount b)) passed) twins items) (sizes-few b)
 
 -- the counts of orders and sets are the sizes
 pub produced-count : (b : Bytes) → length (readQuery b .produced) ≡ producedCount b

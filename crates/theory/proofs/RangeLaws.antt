@@ -1,12 +1,11 @@
 -- What the numbers from k on give, one more at a time: the definitions' lists over a run of numbers.
-use Prim.Native.Nat.{ℕ, zero, suc, _+_, _-_, _<_, _≤_}
+use Prim.Native.Nat.{ℕ, zero, suc, _+_, _-_, _<_}
 use native.Mathlib.Nat.{zero-add, add-zero, add-suc, suc-add}
 use native.Mathlib.Numerals.{add-one}
-use native.Mathlib.Omega.{arith}
 use mathlib.Core.Path.{_≡_, refl, sym, _∙_, ap}
-use mathlib.Core.List.{List, [], _∷_, _++_, map, map-append, append-nil, append-assoc, IsPrefix, flatten}
-use lib.ListN.{length, take, drop, getD, length-map, take-append-drop}
-use lib.Seq.{take-suc, take-take}
+use mathlib.Core.List.{List, [], _∷_, _++_, map, map-append, append-nil, append-assoc, flatten}
+use lib.ListN.{length, take, getD, length-map}
+use lib.Seq.{take-suc}
 use Rattle.theory.specs.Tests.{upFrom}
 use Rattle.theory.proofs.ListLaws.{upFrom-length, upFrom-getD}
 use Rattle.theory.proofs.RowLaws.{getD-map, entries}
@@ -29,17 +28,8 @@ module _ {A : Type 0} where
   pub map-more : (g : ℕ → A) (k n j : ℕ) → j ≡ k + n → map g (upFrom k (n + 1)) ≡ map g (upFrom k n) ++ (g j ∷ [])
   map-more g k n j e = rw e (ap (map g) (sym (upFrom-append k n 1)) ∙ map-append g (upFrom k n) ((k + n) ∷ []))
 
-  -- what the first i numbers give is a beginning of what all n give
-  pub map-begun : (g : ℕ → A) (k i n : ℕ) → i ≤ n → IsPrefix (map g (upFrom k i)) (map g (upFrom k n))
-  map-begun g k i n h =
-      let all : i + (n - i) ≡ n = omega arith in
-      (map g (upFrom (k + i) (n - i)), sym (map-append g (upFrom k i) (upFrom (k + i) (n - i))) ∙ ap (map g) (upFrom-append k i (n - i) ∙ ap (upFrom k) all))
-
   pub take-more : (l : List A) (i : ℕ) (d : A) → i < length l → take (i + 1) l ≡ take i l ++ (getD l i d ∷ [])
   take-more l i d h = ap (λ j. take j l) (add-one i) ∙ take-suc l i d h
-
-  pub take-begun : (l : List A) (i n : ℕ) → i ≤ n → IsPrefix (take i l) (take n l)
-  take-begun l i n h = (drop i (take n l), ap (λ k. k ++ drop i (take n l)) (sym (take-take i n l h)) ∙ take-append-drop i (take n l))
 
 module _ {A : Type 0} where
   pub flatten-append : (ls ms : List (List A)) → flatten (ls ++ ms) ≡ flatten ls ++ flatten ms
@@ -53,14 +43,6 @@ module _ {A : Type 0} where
 
   pub flatten-more : (f : ℕ → List A) (k n j : ℕ) → j ≡ k + n → flatten (map f (upFrom k (n + 1))) ≡ flatten (map f (upFrom k n)) ++ f j
   flatten-more f k n j e = ap flatten (map-more f k n j e) ∙ flatten-snoc (map f (upFrom k n)) (f j)
-
-  pub flatten-begun : (f : ℕ → List A) (k i n : ℕ) → i ≤ n → IsPrefix (flatten (map f (upFrom k i))) (flatten (map f (upFrom k n)))
-  flatten-begun f k i n h =
-      let p = map-begun f k i n h in
-      (flatten (p .0), sym (flatten-append (map f (upFrom k i)) (p .0)) ∙ ap flatten (p .1))
-
-pub map-begins : {A B : Type 0} (g : A → B) (k l : List A) → IsPrefix k l → IsPrefix (map g k) (map g l)
-map-begins g k l p = (map g (p .0), sym (map-append g k (p .0)) ∙ ap (map g) (p .1))
 
 -- two functions that agree below n give the same list there
 pub map-below : {A : Type 0} (g h : ℕ → A) (d : A) (n : ℕ) → ((i : ℕ) → i < n → g i ≡ h i) → map g (upFrom 0 n) ≡ map h (upFrom 0 n)

@@ -2,14 +2,13 @@
 use Prim.Native.Nat.{ℕ, _<_, _≤_}
 use native.Mathlib.Nat.{not-le-of-lt}
 use mathlib.Core.Path.{_≡_, refl, sym, ap₂, subst}
-use mathlib.Core.Bool.{Bool, true, false, not, _&&_, _||_, Bool·beq, true≢false, false≢true}
+use mathlib.Core.Bool.{Bool, true, false, _&&_, _||_, Bool·beq, true≢false, false≢true}
 use mathlib.Core.Logic.{_⊎_, inl, inr, ⊎-elim}
 use mathlib.Core.List.{List, [], _∷_, List·Memᴰ, List·Memᴰ·head, List·Memᴰ·tail, List·Memᴰ·not-nil, List·Memᴰ·cases-cons, nil≢cons, cons≢nil, head-eq-of-cons-eq, tail-eq-of-cons-eq}
 use lib.Dec.{eqb, ltb, leb}
 use borrow.Author.Tests.{ltb-true, ltb-false, leb-true, leb-false, eqb-true, eqb-false}
 use Rattle.theory.specs.Tests.{Says, holds, fails, Decides, Distinct, empty, also, every, member, repeats, sameList}
 use Rattle.theory.specs.Orders.{sameOrder}
-use Rattle.theory.specs.Construction.{sameMarks}
 use Rattle.theory.proofs.ListLaws.{distinct-rest}
 
 module _ {P : Type 0} where
@@ -40,10 +39,6 @@ module _ {P : Type 0} where
   pub says-by : (b : Bool) → (b ≡ true → P) → (b ≡ false → ¬ P) → Says P b
   says-by true yea nay = holds (yea refl)
   says-by false yea nay = fails (nay refl)
-
-  pub says-not : {b : Bool} → Says P b → Says (¬ P) (not b)
-  says-not (holds p) = fails (λ f. f p)
-  says-not (fails f) = holds f
 
 module _ {P Q : Type 0} where
   pub says-as : (P → Q) → (Q → P) → {b : Bool} → Says P b → Says Q b
@@ -108,11 +103,16 @@ module _ {A : Type 0} {same : A → A → Bool} (dec : Decides same) where
       go (holds m) s = holds (λ d. distinct-rest d .0 m)
       go (fails n) s = says-as (λ f d. f (distinct-rest d .1)) (λ f d. f (also n d)) s
 
+  pub distinct-none : (l : List A) → repeats same l ≡ false → Distinct l
+  distinct-none [] e = empty
+  distinct-none (x ∷ xs) e = go (says-member x xs) (λ k. distinct-none xs k) e
+    where
+      go : {b : Bool} → Says (List·Memᴰ x xs) b → (repeats same xs ≡ false → Distinct xs) → elim b [ true ↦ true | false ↦ repeats same xs ] ≡ false → Distinct (x ∷ xs)
+      go (holds m) rest k = absurd (true≢false k)
+      go (fails n) rest k = also n (rest k)
+
 pub decides-number : Decides eqb
 decides-number = says-eqb
 
 pub decides-order : Decides sameOrder
 decides-order = decides-list decides-number
-
-pub decides-marks : Decides sameMarks
-decides-marks = decides-list decides-bool

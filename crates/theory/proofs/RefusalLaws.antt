@@ -25,6 +25,11 @@ pub pick-alike : (t : Bool) (x : ℕ) {y z : ℕ} → (t ≡ false → y ≡ z) 
 pick-alike true x h = refl
 pick-alike false x h = h refl
 
+-- what holds of both holds of the one that is picked
+pub pick-either : {A : Type 0} (P : A → Type 0) (b : Bool) {x y : A} → P x → P y → P (pick b x y)
+pick-either P true p q = p
+pick-either P false p q = q
+
 pub neither : (s t : Bool) → (s || t) ≡ false → (s ≡ false) × (t ≡ false)
 neither false t e = (refl, e)
 neither true t e = absurd (true≢false e)

@@ -5,7 +5,7 @@ use mathlib.Core.Bool.{Bool, true, false, false≢true}
 use mathlib.Core.Logic.{⊎-elim, ⊎-map}
 use mathlib.Core.List.{List, [], _∷_, List·Memᴰ, List·Memᴰ·head, List·Memᴰ·tail, List·Memᴰ·not-nil, List·Memᴰ·cases-cons}
 use Rattle.theory.specs.Tests.{pick}
-use Rattle.theory.specs.Orders.{Order, Orderings, Rule, Dependency, rulesIn, Change, shorten, insert, behind, before, instead, Step, at, Reach, given, step}
+use Rattle.theory.specs.Orders.{Order, Orderings, Rule, Dependency, rulesIn, Given, by-fix, by-equal, Change, shorten, insert, before, instead, remove, Step, at, Reach, given, step}
 use Rattle.theory.proofs.ListLaws.{Within}
 
 -- the rule of a dependency
@@ -52,22 +52,21 @@ rules-same f g (d ∷ ds) e =
     ap (λ b. pick b (d .rule ∷ rulesIn f ds) (rulesIn f ds)) (e d (List·Memᴰ·head refl)) ∙ ap (λ rs. pick (g (d .set)) (d .rule ∷ rs) rs) rest
 
 -- more rules give more steps
+given-more : {rs qs : List Rule} → Within rs qs → {w : List ℕ} {c : ℕ} → Given rs w c → Given qs w c
+given-more f (by-fix m w) = by-fix (f _ m) w
+given-more f (by-equal e m) = by-equal (⊎-map (f _) (f _) e) m
+
 change-more : {rs qs : List Rule} → Within rs qs → {p s t : Order} → Change rs p s t → Change qs p s t
 change-more f shorten = shorten
-change-more f (insert m w g h) = insert (f _ m) w g h
-change-more f (behind e m g h) = behind (⊎-map (f _) (f _) e) m g h
+change-more f (insert m g h) = insert (given-more f m) g h
 change-more f (before e g h) = before (⊎-map (f _) (f _) e) g h
 change-more f (instead e g h) = instead (⊎-map (f _) (f _) e) g h
+change-more f (remove m) = remove (given-more f m)
 
-pub step-more : {rs qs : List Rule} → Within rs qs → {o r : Order} → Step rs o r → Step qs o r
+step-more : {rs qs : List Rule} → Within rs qs → {o r : Order} → Step rs o r → Step qs o r
 step-more f (at p c) = at p (change-more f c)
 
 -- and more steps give more derivations, from more orderings
-pub reach-wider : {cut : Order → Order} {rs qs : List Rule} {X Y : Orderings} → Within rs qs → ((o : Order) → X o → Y o) → (o : Order) → Reach cut rs X o → Reach cut qs Y o
+pub reach-wider : {rs qs : List Rule} {X Y : Orderings} → Within rs qs → ((o : Order) → X o → Y o) → (o : Order) → Reach rs X o → Reach qs Y o
 reach-wider f g o (given m) = given (g o m)
 reach-wider f g _ (step {o} m s) = step (reach-wider f g o m) (step-more f s)
-
--- What steps under more rules give from what some of them gave is what they give at once.
-pub reach-through : {cut : Order → Order} {rs qs : List Rule} {X : Orderings} → Within rs qs → (o : Order) → Reach cut qs (Reach cut rs X) o → Reach cut qs X o
-reach-through f o (given m) = reach-wider f (λ x k. k) o m
-reach-through f _ (step {o} m s) = step (reach-through f o m) s

@@ -1,101 +1,78 @@
--- Refusal 8 in the derivation's words: more than n states are more than n different pairs of a set of orderings and sets in force.
+-- Refusal 8 in the derivation's words: more than n states are more than n pairs of a produced order and sets in force no two of which share a row.
 use Prim.Native.Nat.{ℕ, suc, _<_}
 use native.Mathlib.Omega.{arith}
-use mathlib.Core.Path.{_≡_, refl, sym, _∙_, ap, ap₂, subst}
+use mathlib.Core.Path.{_≡_, refl, sym, _∙_, ap, subst}
 use mathlib.Core.Bool.{false}
-use mathlib.Core.Logic.{_↔_}
-use mathlib.Core.List.{List, [], _∷_, map, List·Memᴰ, List·Memᴰ·head, List·Memᴰ·tail, List·Memᴰ·not-nil, Memᴰ·of-map, Memᴰ·cast}
-use lib.Dec.{eqb}
-use lib.ListN.{length, getD, length-map, length-replicate}
-use Rattle.theory.specs.Tests.{Distinct, empty, also, member}
-use Rattle.theory.specs.Orders.{Order, Orderings, Query, Reach}
-use Rattle.theory.specs.Choices.{Choice, inForce, noSets, withSets, rulesUnder}
+use mathlib.Core.Logic.{_↔_, ⊎-elim}
+use mathlib.Core.List.{List, [], _∷_, _++_, map, List·Memᴰ, List·Memᴰ·head, List·Memᴰ·tail, List·Memᴰ·not-nil, List·Memᴰ·append-cases, Memᴰ·of-map, Memᴰ·cast}
+use lib.ListN.{length, getD, length-map, length-append}
+use lib.Seq.{ext-getD}
+use Rattle.theory.specs.Tests.{Says, Distinct, empty, also}
+use Rattle.theory.specs.Orders.{Query, interesting, WellFormed, After}
 use Rattle.theory.specs.Closure.{More}
-use Rattle.theory.specs.Machine.{AllBelow}
-use Rattle.theory.specs.Construction.{Node, Marks, kept, KeptAfter, startState}
-use Rattle.theory.specs.States.{orderingsUnder, State, states, Pair, OneState, Apart, nothing, further, MorePairs}
-use Rattle.theory.proofs.Reflect.{says-true, says-member, true-says, decides-number}
-use Rattle.theory.proofs.ListLaws.{member-getD, getD-member}
+use Rattle.theory.specs.Machine.{AllBelow, runs}
+use Rattle.theory.specs.AnswerTree.{AnswerTree}
+use Rattle.theory.specs.Construction.{sizesOf, answersOf, State, Pair, ShareRow, Apart, nothing, further, MorePairs}
+use Rattle.theory.proofs.Reflect.{says-true, true-says, says-one, says-as}
 use Rattle.theory.proofs.RowLaws.{all-cons}
-use Rattle.theory.proofs.ChoiceLaws.{taken-force, withs-same}
-use Rattle.theory.proofs.StateLaws.{Alike, In, close-exactly, close-same, orderings-after}
-use Rattle.theory.proofs.StatesListed.{state-is, run-state}
+use Rattle.theory.proofs.MachineLaws.{runs-append, reached-runs}
+use Rattle.theory.proofs.ConstructionLaws.{states-reduced, held-wide, answers-tell}
 
-module _ (q : Query) (ns : List Order) (exact : (o : Order) → List·Memᴰ o ns ↔ Node q o) where
-  abbrev choice : List ℕ → Choice
-  choice ss = withSets (noSets (q .sets)) ss
-
+module _ (q : Query) (formed : WellFormed q) where
   -- the state of a pair
-  abbrev stateOf : Pair q → Marks × Choice
-  stateOf x = (orderingsUnder q ns (x .order) (choice (x .sets)), choice (x .sets))
+  abbrev pub stateOf : Pair q → AnswerTree
+  stateOf x = runs (answersOf q) (answersOf q .start (x .order)) (x .sets)
 
-  has-state : (x : Pair q) → State q ns (stateOf x)
-  has-state x =
-      let t = getD-member [] (x .produced) in
-      record {
-        order = t .0;
-        produced = t .1;
-        sets = x .sets;
-        below = x .below;
-        arrives = run-state q ns exact (t .0) (x .sets) ∙ ap (λ p. (orderingsUnder q ns p (choice (x .sets)), choice (x .sets))) (t .2);
-      }
+  pub has-state : (x : Pair q) → State q (stateOf x)
+  has-state x = record { order = x .order; produced = x .produced; sets = x .sets; below = x .below; arrives = refl }
 
-  -- its orderings, as what is given from the start and as what the construction has
-  abbrev orderings : Pair q → Orderings
-  orderings x = In q ns exact (orderingsUnder q ns (x .order) (choice (x .sets)))
+  -- with further sets it holds what is derived with them
+  says-after : (x : Pair q) (ss : List ℕ) → AllBelow (q .sets) ss → (i : ℕ) → i < length (interesting q) →
+      Says (After q (getD (q .produced) (x .order) []) (x .sets ++ ss) (getD (interesting q) i [])) (getD (answersOf q .held (runs (answersOf q) (stateOf x) ss)) i false)
+  says-after x ss b i l =
+      subst (λ t. Says (After q (getD (q .produced) (x .order) []) (x .sets ++ ss) (getD (interesting q) i [])) (getD (answersOf q .held t) i false))
+      (runs-append (answersOf q) (answersOf q .start (x .order)) (x .sets) ss)
+      (answers-tell q formed (x .order) i (x .sets ++ ss) (x .produced) (λ s m. ⊎-elim (x .below s) (b s) (List·Memᴰ·append-cases (x .sets) m)) l)
 
-  close : (x : Pair q) → Alike (orderings x) (Reach (kept q) (rulesUnder q (choice (x .sets))) (In q ns exact (startState ns (x .order))))
-  close x = close-exactly q ns exact (choice (x .sets)) (startState ns (x .order))
+  width : (x : Pair q) (ss : List ℕ) → AllBelow (q .sets) ss → length (answersOf q .held (runs (answersOf q) (stateOf x) ss)) ≡ length (interesting q)
+  width x ss b = held-wide q _ (reached-runs (answersOf q) (sizesOf q) ss b (stateOf x) (has-state x)) ∙ sym (length-append (q .produced) (q .tested))
 
-  after : (x : Pair q) → Alike (orderings x) (KeptAfter q (x .order) (x .sets))
-  after x = orderings-after q ns exact (x .order) (x .produced) (x .sets) (x .below)
+  -- Two pairs share a row exactly when their states are one.
+  pub share-same : (x y : Pair q) → ShareRow q x y → stateOf x ≡ stateOf y
+  share-same x y share =
+      states-reduced q (stateOf x) (stateOf y) (has-state x) (has-state y)
+      (λ ss b.
+      ext-getD false _ _ (width x ss b ∙ sym (width y ss b))
+      (λ i h.
+      let l = subst (λ n. i < n) (width x ss b) h in
+      says-one (says-as (share ss b i l .0) (share ss b i l .1) (says-after x ss b i l)) (says-after y ss b i l)))
 
-  below-none : (x : Pair q) → AllBelow (length (noSets (q .sets))) (x .sets)
-  below-none x s m = subst (λ n. s < n) (sym (length-replicate (q .sets) false)) (x .below s m)
-
-  -- pairs that are one state have the same orderings and sets in force, ..
-  one-state : (x y : Pair q) → OneState q x y → stateOf x ≡ stateOf y
-  one-state x y e =
-      ap₂ (λ ms c. (ms, c))
-      (close-same q ns exact (startState ns (x .order)) (startState ns (y .order)) (choice (x .sets)) (choice (y .sets))
-      (λ o. (λ r. close y o .0 (after y o .1 (e .1 o .0 (after x o .0 (close x o .1 r)))), λ r. close x o .0 (after x o .1 (e .1 o .1 (after y o .0 (close y o .1 r)))))))
-      (withs-same (noSets (q .sets)) (x .sets) (y .sets) (below-none x) (below-none y) (e .0))
-
-  -- .. and the other way round
-  state-one : (x y : Pair q) → stateOf x ≡ stateOf y → OneState q x y
-  state-one x y e =
-      let same : (s : ℕ) → member eqb s (x .sets) ≡ member eqb s (y .sets) = (λ s.
-      sym (taken-force (q .sets) (x .sets) (x .below) s) ∙ ap (λ (w : Marks × Choice). inForce (w .1) s) e ∙ taken-force (q .sets) (y .sets) (y .below) s) in
-      let marks-same = ap (λ (w : Marks × Choice). w .0) e in (
-        λ s. (
-          λ m. says-true (says-member decides-number s (y .sets)) (sym (same s) ∙ true-says (says-member decides-number s (x .sets)) m),
-          λ m. says-true (says-member decides-number s (x .sets)) (same s ∙ true-says (says-member decides-number s (y .sets)) m),
-        ),
-        λ o. (
-          λ k. after y o .0 (subst (λ ms. In q ns exact ms o) marks-same (after x o .1 k)),
-          λ k. after x o .0 (subst (λ ms. In q ns exact ms o) (sym marks-same) (after y o .1 k)),
-        ),
+  pub same-share : (x y : Pair q) → stateOf x ≡ stateOf y → ShareRow q x y
+  same-share x y e ss b i l =
+      let bits = ap (λ t. getD (answersOf q .held (runs (answersOf q) t ss)) i false) e in (
+        λ a. says-true (says-after y ss b i l) (sym bits ∙ true-says (says-after x ss b i l) a),
+        λ a. says-true (says-after x ss b i l) (bits ∙ true-says (says-after y ss b i l) a),
       )
 
-  pairs-distinct : (xs : List (Pair q)) → Apart (OneState q) xs → Distinct (map stateOf xs)
+  pairs-distinct : (xs : List (Pair q)) → Apart (ShareRow q) xs → Distinct (map stateOf xs)
   pairs-distinct [] nothing = empty
   pairs-distinct (x ∷ xs) (further n a) =
-      also (λ i. let t = Memᴰ·of-map stateOf xs i in n (t .0) (t .1) (state-one x (t .0) (sym (t .2)))) (pairs-distinct xs a)
+      also (λ i. let t = Memᴰ·of-map stateOf xs i in n (t .0) (t .1) (same-share x (t .0) (sym (t .2)))) (pairs-distinct xs a)
 
-  record Pairs (xs : List (Marks × Choice)) : Type 0 where
+  record Pairs (xs : List (AnswerTree)) : Type 0 where
     pairs : List (Pair q)
     count : length pairs ≡ length xs
-    apart : Apart (OneState q) pairs
+    apart : Apart (ShareRow q) pairs
     within : (x : Pair q) → List·Memᴰ x pairs → List·Memᴰ (stateOf x) xs
 
   -- the pair that leads to a state
-  pairOf : (x : Marks × Choice) → State q ns x → (p : Pair q) × (stateOf p ≡ x)
+  pairOf : (x : AnswerTree) → State q x → (p : Pair q) × (stateOf p ≡ x)
   pairOf x r = (
-    record { order = getD (q .produced) (r .order) []; produced = member-getD (q .produced) (r .order) [] (r .produced); sets = r .sets; below = r .below },
-    state-is q ns exact x r,
+    record { order = r .order; produced = r .produced; sets = r .sets; below = r .below },
+    r .arrives,
   )
 
-  pairs-of : (xs : List (Marks × Choice)) → Distinct xs → ((x : Marks × Choice) → List·Memᴰ x xs → State q ns x) → Pairs xs
+  pairs-of : (xs : List (AnswerTree)) → Distinct xs → ((x : AnswerTree) → List·Memᴰ x xs → State q x) → Pairs xs
   pairs-of [] empty all = record { pairs = []; count = refl; apart = nothing; within = λ x i. absurd (List·Memᴰ·not-nil i) }
   pairs-of (x ∷ xs) (also n d) all =
       let p = pairOf x (all x (List·Memᴰ·head refl)) in
@@ -103,12 +80,12 @@ module _ (q : Query) (ns : List Order) (exact : (o : Order) → List·Memᴰ o n
       record {
         pairs = p .0 ∷ rest .pairs;
         count = ap suc (rest .count);
-        apart = further (λ y i e. n (Memᴰ·cast (sym (p .1) ∙ one-state (p .0) y e) (rest .within y i))) (rest .apart);
+        apart = further (λ y i e. n (Memᴰ·cast (sym (p .1) ∙ share-same (p .0) y e) (rest .within y i))) (rest .apart);
         within = all-cons (List·Memᴰ·head (p .1)) (λ y i. List·Memᴰ·tail (rest .within y i));
       }
 
   -- More than n states are more than n pairs, no two of which are one state.
-  pub states-pairs : (n : ℕ) → More n (State q ns) ↔ MorePairs q n
+  pub states-pairs : (n : ℕ) → More n (State q) ↔ MorePairs q n
   states-pairs n = (
     λ m. let p = pairs-of (m .things) (m .different) (m .each) in let h = m .many in record { pairs = p .pairs; apart = p .apart; many = omega (arith, p .count) },
     λ m.
@@ -117,6 +94,6 @@ module _ (q : Query) (ns : List Order) (exact : (o : Order) → List·Memᴰ o n
           things = map stateOf (m .pairs);
           different = pairs-distinct (m .pairs) (m .apart);
           many = omega (arith, length-map (m .pairs) stateOf);
-          each = λ x i. let t = Memᴰ·of-map stateOf (m .pairs) i in subst (State q ns) (t .2) (has-state (t .0));
+          each = λ x i. let t = Memᴰ·of-map stateOf (m .pairs) i in subst (State q) (t .2) (has-state (t .0));
         },
   )

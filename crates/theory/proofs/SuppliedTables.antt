@@ -11,7 +11,7 @@ use Rattle.theory.specs.Construction.{sizesOf}
 use Rattle.theory.specs.Refusals.{passed, answer-refused}
 use Rattle.theory.specs.Query.{Bytes, readQuery}
 use Rattle.theory.specs.Table.{Table, machineIn, tableRefusal}
-use Rattle.theory.specs.Build.{too-many, table, Constructs, many-orderings, many-states, its-table, built, outcome}
+use Rattle.theory.specs.Build.{too-many, table, Constructs, many-states, its-table, built, outcome}
 use Rattle.theory.specs.Lookups.{Lookup, entry, run, Answers, Faithful}
 use Rattle.theory.specs.Verification.{SameSizes, verifyRefusal, WrongAnswer, Buildable, Verdict, query-refused, scratch-short, not-constructed, form-refused, sizes-differ, answer-wrong, accepted}
 use Rattle.theory.proofs.RowTheorem.{row-theorem}
@@ -22,9 +22,8 @@ use Rattle.theory.proofs.DemandThree.{built-when, built-facts, built-fa
 use Rattle.theory.proofs.VerificationLaws.{wrong-unfaithful, verify-means}
 
 -- constructing is refused or gives a table, not both
-apart : {q : Query} {m n : ℕ} {t : Table} → Constructs q (too-many m) → Constructs q (table t n) → ⊥
-apart (many-orderings k) (its-table n _) = n k
-apart (many-states _ k) (its-table _ n) = n k
+apart : {q : Query} {t : Table} → Constructs q too-many → Constructs q (table t) → ⊥
+apart (many-states k) (its-table n) = n k
 
 -- a faithful table has the query's sizes
 pub faithful-sizes : {q : Query} {t : Bytes} → Faithful q t → SameSizes q t
@@ -40,8 +39,7 @@ module _ (query t : Bytes) (scratch : ℕ) where
   accepted-when : {r : ℕ} → Verdict query t scratch r → r ≡ passed → Accepted query t scratch
   accepted-when (query-refused n) e = absurd (n e)
   accepted-when (scratch-short _ _) e = absurd (omega arith)
-  accepted-when (not-constructed _ _ (many-orderings _)) e = absurd (omega arith)
-  accepted-when (not-constructed _ _ (many-states _ _)) e = absurd (omega arith)
+  accepted-when (not-constructed _ _ _) e = absurd (omega arith)
   accepted-when (form-refused _ n) e = absurd (n e)
   accepted-when (sizes-differ _ _ _) e = absurd (omega arith)
   accepted-when (answer-wrong _ _ _ _) e = absurd (omega arith)
@@ -78,15 +76,15 @@ module _ (query t : Bytes) (scratch : ℕ) where
   -- Demand 3 on every accepted table: from a granted entry on, every list of lookups gets the plain model's answers.
   pub accepted-lookups : verifyRefusal query t scratch ≡ passed → (h : ℕ) → h < length (readQuery query .produced) → (ls : List Lookup) (p : Order) (ss : List ℕ) (state : ℕ) →
       Answers (readQuery query) p ss (entry h ∷ ls) (run t state (entry h ∷ ls))
-  accepted-lookups e = lookup-law (accepted-facts e .faithful) (row-theorem (readQuery query))
+  accepted-lookups e = lookup-law (accepted-facts e .faithful) row-theorem
 
   -- The builder's own table is accepted.
-  pub own-accepted : (output n : ℕ) → outcome query scratch output ≡ built t n → verifyRefusal query t scratch ≡ passed
-  own-accepted output n e =
-      let b = built-facts query scratch output t n e in
+  pub own-accepted : (output : ℕ) → outcome query scratch output ≡ built t → verifyRefusal query t scratch ≡ passed
+  own-accepted output e =
+      let b = built-facts query scratch output t e in
       faithful-accepted
       (record {
-        buildable = built-when query scratch output t n (λ k c s x _. record { checked = c; room = s; ours = k; count = n; constructed = x }) e;
+        buildable = built-when query scratch output t (λ k c s x _. record { checked = c; room = s; ours = k; constructed = x }) e;
         passes = built-passes b;
         faithful = built-faithful b;
       })

@@ -9,7 +9,7 @@ use lib.ListN.{length, getD, length-append}
 use lib.Seq.{ext-getD}
 use Rattle.theory.specs.Tests.{pick, Says, holds, fails}
 use Rattle.theory.specs.Limits.{maxPairs, scratchLength}
-use Rattle.theory.specs.Orders.{Query, interesting}
+use Rattle.theory.specs.Orders.{Query, interesting, WellFormed}
 use Rattle.theory.specs.Machine.{Sizes, AllBelow, runs, SameAnswers, agree}
 use Rattle.theory.specs.Construction.{sizesOf}
 use Rattle.theory.specs.Refusals.{passed, space-refused, mismatch-refused, answer-refused, firstRefusal}
@@ -20,6 +20,7 @@ use Rattle.theory.specs.Lookups.{Faithful}
 use Rattle.theory.specs.Verification.{SameSizes, sameSizes, mismatchRefusal, answerRefusal, suppliedRefusal, verifiedWith, verifyRefusal, WrongAnswer, Buildable, Verdict, query-refused, scratch-short, not-constructed, form-refused, sizes-differ, answer-wrong, accepted}
 use Rattle.theory.proofs.Reflect.{says-one, says-true, says-as, says-and, says-eqb, says-ltb, decides-number, decides-bool}
 use Rattle.theory.proofs.ChoiceNumbers.{bits-length}
+use Rattle.theory.proofs.ReadLaws.{query-formed}
 use Rattle.theory.proofs.MachineLaws.{Inside, inside-after}
 use Rattle.theory.proofs.PairLaws.{agree-says, agree-parts, pairs-few}
 use Rattle.theory.proofs.MachineTable.{Limited, numbers-inside, numbers-wide}
@@ -49,35 +50,36 @@ says-sizes q t =
     says-as (λ h. record { produced = h .0; tested = h .1 .0; sets = h .1 .1 }) (λ s. (s .produced, (s .tested, s .sets)))
     (says-and (says-eqb (producedIn t) (length (q .produced))) (says-and (says-eqb (testedIn t) (length (q .tested))) (says-eqb (setsIn t) (q .sets))))
 
+-- a table with the query's sizes says of every interesting order whether it is held
+pub their-width : (q : Query) (t : Bytes) → SameSizes q t → (state : ℕ) → length (machineIn t .held state) ≡ length (interesting q)
+their-width q t sizes state =
+    bits-length (producedIn t + testedIn t) (wordIn t state)
+    ∙ ap (λ (z : Sizes). z .produced + z .tested) (sizes-are q t sizes) ∙ sym (length-append (q .produced) (q .tested))
+
 -- a query's own table beside a table that passes the table check and has the query's sizes
-module _ {q : Query} {ours : Table} {n : ℕ} (limits : Limited (sizesOf q)) (d : Made q ours n) (t : Bytes) (passes : tableRefusal t ≡ passed) (sizes : SameSizes q t) where
+module _ {q : Query} {ours : Table} (formed : WellFormed q) (limits : Limited (sizesOf q)) (d : Made q ours) (t : Bytes) (passes : tableRefusal t ≡ passed) (sizes : SameSizes q t) where
   our-states : Inside (numbersOf ours) (sizesOf q) (ours .stateCount)
   our-states = subst (λ z. Inside (numbersOf ours) z (ours .stateCount)) (made-sizes limits d) (numbers-inside ours (made-sized limits d) (made-numbered limits d))
 
   their-states : Inside (machineIn t) (sizesOf q) (statesIn t)
   their-states = subst (λ z. Inside (machineIn t) z (statesIn t)) (sizes-are q t sizes) (table-checked t passes .inside)
 
-  -- both say of every interesting order whether it is held
+  -- and so does the query's own
   our-width : (p : ℕ) (ss : List ℕ) → p < length (q .produced) → AllBelow (q .sets) ss → length (numbersOf ours .held (runs (numbersOf ours) (numbersOf ours .start p) ss)) ≡ length (interesting q)
   our-width p ss h b =
       numbers-wide ours (made-sized limits d) (made-numbered limits d) (runs (numbersOf ours) (numbersOf ours .start p) ss) (inside-after our-states p ss h b)
       ∙ ap (λ (z : Sizes). z .produced + z .tested) (made-sizes limits d) ∙ sym (length-append (q .produced) (q .tested))
 
-  their-width : (state : ℕ) → length (machineIn t .held state) ≡ length (interesting q)
-  their-width state =
-      bits-length (producedIn t + testedIn t) (wordIn t state)
-      ∙ ap (λ (z : Sizes). z .produced + z .tested) (sizes-are q t sizes) ∙ sym (length-append (q .produced) (q .tested))
-
   -- The table is faithful exactly when it answers as the query's own does.
   pub same-faithful : SameAnswers (sizesOf q) (numbersOf ours) (machineIn t) → Faithful q t
   same-faithful same =
-      passed-faithful q t passes (sizes .produced) (sizes .tested) (sizes .sets) (same-tells q (numbersOf ours) (machineIn t) same (made-tells limits d))
+      passed-faithful q t passes (sizes .produced) (sizes .tested) (sizes .sets) (same-tells q (numbersOf ours) (machineIn t) same (made-tells limits d formed))
 
   pub faithful-same : Faithful q t → SameAnswers (sizesOf q) (numbersOf ours) (machineIn t)
   faithful-same f p ss h b =
       let e = our-width p ss h b in
-      ext-getD false _ _ (e ∙ sym (their-width _))
-      (λ i l. says-one (made-tells limits d p i ss h b (subst (λ w. i < w) e l)) (f .tells p i ss h b (subst (λ w. i < w) e l)))
+      ext-getD false _ _ (e ∙ sym (their-width q t sizes _))
+      (λ i l. says-one (made-tells limits d formed p i ss h b (subst (λ w. i < w) e l)) (f .tells p i ss h b (subst (λ w. i < w) e l)))
 
   -- the test of the pairs says so, ..
   pub answers-say : Says (SameAnswers (sizesOf q) (numbersOf ours) (machineIn t)) (agree maxPairs (sizesOf q) (numbersOf ours) (machineIn t))
@@ -91,7 +93,7 @@ module _ {q : Query} {ours : Table} {n : ℕ} (limits : Limited (sizesOf q)) (d 
       let r = agree-parts (numbersOf ours) (machineIn t) (sizesOf q) decides-number decides-number maxPairs
       (pairs-few our-states their-states (made-sized limits d .few-states) (table-checked t passes .few) decides-number decides-number) e in
       let w = our-width (r .order) (r .sets) (r .produced) (r .below) in
-      let i = differ-at _ _ (w ∙ sym (their-width _)) (r .differ) in
+      let i = differ-at _ _ (w ∙ sym (their-width q t sizes _)) (r .differ) in
       let l = subst (λ k. i .0 < k) w (i .1) in
       record {
         order = r .order;
@@ -100,7 +102,7 @@ module _ {q : Query} {ours : Table} {n : ℕ} (limits : Limited (sizesOf q)) (d 
         below = r .below;
         asked = i .0;
         among = l;
-        wrong = λ s. i .2 (says-one (made-tells limits d (r .order) (i .0) (r .sets) (r .produced) (r .below) l) s);
+        wrong = λ s. i .2 (says-one (made-tells limits d formed (r .order) (i .0) (r .sets) (r .produced) (r .below) l) s);
       }
 
 -- a table with a wrong answer is not faithful
@@ -112,14 +114,17 @@ module _ (query t : Bytes) (scratch : ℕ) where
     limits : Limited (sizesOf (readQuery query))
     limits = query-limited query (b .checked)
 
-    own : Made (readQuery query) (b .ours) (b .count)
+    own : Made (readQuery query) (b .ours)
     own = made (readQuery query) (b .constructed)
+
+    formed-query : WellFormed (readQuery query)
+    formed-query = query-formed query (b .checked)
 
     -- the table's checks from the last to the first, each with what comes after it
     answer-means : tableRefusal t ≡ passed → SameSizes (readQuery query) t → (a : Bool) → agree maxPairs (sizesOf (readQuery query)) (numbersOf (b .ours)) (machineIn t) ≡ a →
         Verdict query t scratch (pick a passed answer-refused)
-    answer-means passes sizes true e = accepted b passes sizes (same-faithful limits own t passes sizes (says-true (answers-say limits own t passes sizes) e))
-    answer-means passes sizes false e = answer-wrong b passes sizes (answers-wrong limits own t passes sizes e)
+    answer-means passes sizes true e = accepted b passes sizes (same-faithful formed-query limits own t passes sizes (says-true (answers-say formed-query limits own t passes sizes) e))
+    answer-means passes sizes false e = answer-wrong b passes sizes (answers-wrong formed-query limits own t passes sizes e)
 
     sizes-means : tableRefusal t ≡ passed → {s : Bool} → Says (SameSizes (readQuery query) t) s →
         Verdict query t scratch (firstRefusal (pick s passed mismatch-refused) (answerRefusal (readQuery query) (b .ours) t))
@@ -135,8 +140,8 @@ module _ (query t : Bytes) (scratch : ℕ) where
 
   constructed-means : queryRefusal query ≡ passed → scratchLength ≤ scratch → (k : Constructed) → Constructs (readQuery query) k → Verdict query t scratch (verifiedWith (readQuery query) k t)
   unfolding suppliedRefusal
-  constructed-means c s (too-many n) k = not-constructed c s k
-  constructed-means c s (table ours n) k = form-means (record { checked = c; room = s; ours = ours; count = n; constructed = k }) (says-eqb (tableRefusal t) passed)
+  constructed-means c s too-many k = not-constructed c s k
+  constructed-means c s (table ours) k = form-means (record { checked = c; room = s; ours = ours; constructed = k }) (says-eqb (tableRefusal t) passed)
 
   abbrev own-refusal : ℕ
   own-refusal = verifiedWith (readQuery query) (construct (readQuery query)) t

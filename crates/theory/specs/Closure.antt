@@ -1,5 +1,4 @@
--- "Repeated until nothing is added", and the numbering walk, as one function that computes: things are found in turn, each once.
--- The same function gives the wanted columns, the nodes, the nodes of a state and the numbered states.
+-- The numbering walk as a function that computes: things are found in turn, each once.
 use Prim.Native.Nat.{ℕ, zero, suc, _<_}
 use mathlib.Core.Path.{_≡_}
 use mathlib.Core.Logic.{_↔_}

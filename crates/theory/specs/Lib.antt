@@ -7,8 +7,8 @@ pub mod Rows
 pub mod Closure
 pub mod Machine
 pub mod AnswerTree
+pub mod Settled
 pub mod Construction
-pub mod States
 pub mod Refusals
 pub mod Query
 pub mod Table

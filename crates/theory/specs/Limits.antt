@@ -24,10 +24,6 @@ maxStates = 128
 abbrev pub maxPairs : ℕ
 maxPairs = 16384
 
--- The construction has no more nodes than these.
-abbrev pub maxNodes : ℕ
-maxNodes = 256
-
 -- An order has at most four columns.
 abbrev pub maxLength : ℕ
 maxLength = 4

@@ -16,15 +16,12 @@ decimalWithin (suc k) n = pick (ltb n 10) [] (decimalWithin k (n / 10)) ++ ((48 
 abbrev pub decimal : ℕ → Bytes
 decimal n = decimalWithin 5 n
 
--- The labels: "refused ", "states ", " nodes ", "start ", "state ", " next", " held ", and the end of a line.
+-- The labels: "refused ", "states ", "start ", "state ", " next", " held ", and the end of a line.
 abbrev pub refusedLabel : Bytes
 refusedLabel = 114 ∷ 101 ∷ 102 ∷ 117 ∷ 115 ∷ 101 ∷ 100 ∷ 32 ∷ []
 
 abbrev pub statesLabel : Bytes
 statesLabel = 115 ∷ 116 ∷ 97 ∷ 116 ∷ 101 ∷ 115 ∷ 32 ∷ []
-
-abbrev pub nodesLabel : Bytes
-nodesLabel = 32 ∷ 110 ∷ 111 ∷ 100 ∷ 101 ∷ 115 ∷ 32 ∷ []
 
 abbrev pub startLabel : Bytes
 startLabel = 115 ∷ 116 ∷ 97 ∷ 114 ∷ 116 ∷ 32 ∷ []
@@ -45,9 +42,9 @@ lineEnd = 10 ∷ []
 abbrev pub spaced : ℕ → Bytes
 spaced n = 32 ∷ decimal n
 
--- The counts of states and nodes.
-unfoldable pub countsLine : Bytes → ℕ → Bytes
-countsLine t n = statesLabel ++ (decimal (statesIn t) ++ (nodesLabel ++ (decimal n ++ lineEnd)))
+-- The count of states.
+unfoldable pub countLine : Bytes → Bytes
+countLine t = statesLabel ++ (decimal (statesIn t) ++ lineEnd)
 
 -- A produced order with its start.
 unfoldable pub startLine : Bytes → ℕ → Bytes
@@ -58,10 +55,10 @@ unfoldable pub stateLine : Bytes → ℕ → Bytes
 stateLine t state =
     stateLabel ++ (decimal state ++ (nextLabel ++ (flatten (map spaced (rowIn t state)) ++ (heldLabel ++ (decimal (wordIn t state) ++ lineEnd)))))
 
--- A table's listing, with the count of nodes.
-unfoldable pub tableListing : Bytes → ℕ → Bytes
-tableListing t n =
-    countsLine t n ++ (flatten (map (startLine t) (upFrom 0 (producedIn t))) ++ flatten (map (stateLine t) (upFrom 0 (statesIn t))))
+-- A table's listing.
+unfoldable pub tableListing : Bytes → Bytes
+tableListing t =
+    countLine t ++ (flatten (map (startLine t) (upFrom 0 (producedIn t))) ++ flatten (map (stateLine t) (upFrom 0 (statesIn t))))
 
 -- The line of a refusal.
 abbrev pub refusedLine : ℕ → Bytes
@@ -70,7 +67,7 @@ refusedLine n = refusedLabel ++ (decimal n ++ lineEnd)
 -- What is listed of a build: its refusal's line, or its table.
 abbrev pub listed : Outcome → Bytes
 listed (refused n) = refusedLine n
-listed (built t n) = tableListing t n
+listed (built t) = tableListing t
 
 -- The listing of a query, with room enough for the build.
 unfoldable pub listing : Bytes → Bytes

@@ -7,7 +7,7 @@ use mathlib.Core.List.{List, [], _∷_, _++_}
 use lib.Dec.{eqb}
 use lib.ListN.{length, getD}
 use Rattle.theory.specs.Tests.{pick, Says}
-use Rattle.theory.specs.Orders.{Order, Query, interesting, After}
+use Rattle.theory.specs.Orders.{Order, Query, interesting, rulesOf, After}
 use Rattle.theory.specs.Rows.{HoldsOfRows}
 use Rattle.theory.specs.Refusals.{passed, handle-refused}
 use Rattle.theory.specs.Machine.{Machine, AllBelow, runs}
@@ -54,7 +54,7 @@ pub data Answers (q : Query) : Order → List ℕ → List Lookup → List Answe
   -- An ask answers held when its order is among the orderings. Whenever it says held, any rows stand in that order that stand in the start order and
   -- obey every dependency of the listed sets.
   ask-granted : {p : Order} {ss : List ℕ} {i : ℕ} {held : Bool} {ls : List Lookup} {rs : List Answer} →
-      i < length (interesting q) → Says (After q p ss (getD (interesting q) i [])) held → (held ≡ true → HoldsOfRows q p ss (getD (interesting q) i [])) →
+      i < length (interesting q) → Says (After q p ss (getD (interesting q) i [])) held → (held ≡ true → HoldsOfRows (rulesOf q ss) p (getD (interesting q) i [])) →
       Answers q p ss ls rs → Answers q p ss (asking i ∷ ls) (grant (bit held) ∷ rs)
 
 -- A machine tells a query's derivation: after a start and any run of sets, an interesting order is held exactly when the uncut derivation gives it.

@@ -1,14 +1,22 @@
--- Document 01, "Orders, dependencies, derivation": what an order and a dependency are, one step, the start; and what is derived after some sets. Uncut, as relations.
-use Prim.Native.Nat.{ℕ}
+-- Document 01, "Orders, dependencies, derivation", with document 02's Req 05: what an order and a dependency are, one step, the start; and what is derived after some sets,
+-- as relations.
+use Prim.Native.Nat.{ℕ, _<_}
 use mathlib.Core.Bool.{Bool}
 use mathlib.Core.Logic.{_⊎_}
 use mathlib.Core.List.{List, [], _∷_, _++_, map, List·Memᴰ, IsPrefix}
 use lib.Dec.{eqb}
-use Rattle.theory.specs.Tests.{pick, member, sameList}
+use Rattle.theory.specs.Tests.{pick, Distinct, member, sameList}
 
--- A column is a number. An order, and a derived ordering, is a list of columns, most significant first; the empty one is an unsorted scan.
+-- A column is a number. An order, and a derived ordering, is a list of entries, most significant first; the empty one is an unsorted scan.
 abbrev pub Order : Type 0
 Order = List ℕ
+
+-- An entry is its column. Dependencies speak of columns, orders have entries.
+abbrev pub column : ℕ → ℕ
+column e = e
+
+abbrev pub columns : Order → List ℕ
+columns = map column
 
 abbrev pub sameOrder : Order → Order → Bool
 sameOrder = sameList eqb
@@ -45,26 +53,46 @@ rulesIn test (d ∷ ds) = pick (test (d .set)) (d .rule ∷ rulesIn test ds) (ru
 abbrev pub rulesOf : Query → List ℕ → List Rule
 rulesOf q ss = rulesIn (λ s. member eqb s ss) (q .dependencies)
 
--- All rules, whatever their set.
-abbrev pub allRules : Query → List Rule
-allRules q = map (λ (d : Dependency). d .rule) (q .dependencies)
+-- The columns that a rule names.
+abbrev pub columnsOf : Rule → List ℕ
+columnsOf (fix l r) = r ∷ l
+columnsOf (equal a b) = a ∷ b ∷ []
+
+-- Different columns, each below n.
+pub record Columns (n : ℕ) (l : List ℕ) : Type 0 where
+  pub below : (c : ℕ) → List·Memᴰ c l → c < n
+  pub distinct : Distinct l
+
+-- The rules name columns below n.
+abbrev pub RulesBelow : ℕ → List Rule → Type 0
+RulesBelow n rs = (r : Rule) → List·Memᴰ r rs → (c : ℕ) → List·Memᴰ c (columnsOf r) → c < n
+
+-- A query is well formed: each interesting order has different columns, and no column is named that is not below N.
+pub record WellFormed (q : Query) : Type 0 where
+  pub orders : (o : Order) → List·Memᴰ o (interesting q) → Columns (q .columns) (columns o)
+  pub rules : RulesBelow (q .columns) (map (λ (d : Dependency). d .rule) (q .dependencies))
 
 -- An equal, either way round.
 abbrev pub Same : List Rule → ℕ → ℕ → Type 0
 Same rs a b = List·Memᴰ (equal a b) rs ⊎ List·Memᴰ (equal b a) rs
 
+-- What some columns give in one step of a rule: the right column of a fix whose left columns are all among them, or a column equal to one of them.
+pub data Given (rs : List Rule) (w : List ℕ) : ℕ → Type 0 where
+  by-fix : {l : List ℕ} {r : ℕ} → List·Memᴰ (fix l r) rs → ((c : ℕ) → List·Memᴰ c l → List·Memᴰ c w) → Given rs w r
+  by-equal : {a b : ℕ} → Same rs a b → List·Memᴰ a w → Given rs w b
+
 -- What one step under the rules does behind a beginning p: the entries s that follow it become t.
 pub data Change (rs : List Rule) (p : Order) : Order → Order → Type 0 where
   -- Prefix: the last entry is taken away.
   shorten : {x : ℕ} → Change rs p (x ∷ []) []
-  -- Insert: the left columns of a fix all occur in p, the right one occurs nowhere, and goes in directly behind p.
-  insert : {l : List ℕ} {r : ℕ} {s : Order} → List·Memᴰ (fix l r) rs → ((c : ℕ) → List·Memᴰ c l → List·Memᴰ c p) → ¬ List·Memᴰ r p → ¬ List·Memᴰ r s → Change rs p s (r ∷ s)
-  -- Equal a, b, where b occurs nowhere: b goes in at a place behind a, ..
-  behind : {a b : ℕ} {s : Order} → Same rs a b → List·Memᴰ a p → ¬ List·Memᴰ b p → ¬ List·Memᴰ b s → Change rs p s (b ∷ s)
-  -- .. or directly before a, ..
-  before : {a b : ℕ} {s : Order} → Same rs a b → ¬ List·Memᴰ b p → ¬ List·Memᴰ b (a ∷ s) → Change rs p (a ∷ s) (b ∷ a ∷ s)
+  -- Insert, and an equal behind: the columns of p give a column that occurs nowhere, and it goes in directly behind p.
+  insert : {e : ℕ} {s : Order} → Given rs (columns p) (column e) → ¬ List·Memᴰ (column e) (columns p) → ¬ List·Memᴰ (column e) (columns s) → Change rs p s (e ∷ s)
+  -- Equal a, b, where b occurs nowhere: b goes in directly before a, ..
+  before : {a b : ℕ} {s : Order} → Same rs (column a) (column b) → ¬ List·Memᴰ (column b) (columns p) → ¬ List·Memᴰ (column b) (columns (a ∷ s)) → Change rs p (a ∷ s) (b ∷ a ∷ s)
   -- .. or in the stead of a.
-  instead : {a b : ℕ} {s : Order} → Same rs a b → ¬ List·Memᴰ b p → ¬ List·Memᴰ b (a ∷ s) → Change rs p (a ∷ s) (b ∷ s)
+  instead : {a b : ℕ} {s : Order} → Same rs (column a) (column b) → ¬ List·Memᴰ (column b) (columns p) → ¬ List·Memᴰ (column b) (columns (a ∷ s)) → Change rs p (a ∷ s) (b ∷ s)
+  -- Document 02, Req 05: the columns of p give the entry's column, a fix by its left columns or an equal column, and the entry is taken out.
+  remove : {e : ℕ} {s : Order} → Given rs (columns p) (column e) → Change rs p (e ∷ s) s
 
 -- One step from an ordering under the rules, at any place.
 pub data Step (rs : List Rule) : Order → Order → Type 0 where
@@ -74,21 +102,20 @@ pub data Step (rs : List Rule) : Order → Order → Type 0 where
 abbrev pub Orderings : Type 1
 Orderings = Order → Type 0
 
--- All that steps under the rules give from X, repeated until nothing is added: the least set that holds X and is closed under steps.
--- Each result is replaced by `cut` of it, so that one definition serves the derivation and the construction.
-pub data Reach (cut : Order → Order) (rs : List Rule) (X : Orderings) : Order → Type 0 where
-  given : {o : Order} → X o → Reach cut rs X o
-  step : {o r : Order} → Reach cut rs X o → Step rs o r → Reach cut rs X (cut r)
+-- All that steps under the rules give from X, repeated until nothing is added: the least set that holds X and is closed under steps. Orderings may have any length.
+pub data Reach (rs : List Rule) (X : Orderings) : Order → Type 0 where
+  given : {o : Order} → X o → Reach rs X o
+  step : {o r : Order} → Reach rs X o → Step rs o r → Reach rs X r
 
 -- The start from an order: that order and all its prefixes.
 abbrev pub Start : Order → Orderings
 Start p o = IsPrefix o p
 
--- In the derivation nothing is cut.
-abbrev pub whole : Order → Order
-whole o = o
+-- The orderings derived from the start order p under the rules.
+abbrev pub Derived : List Rule → Order → Orderings
+Derived rs p = Reach rs (Start p)
 
 -- Document 02, Req 03: the orderings derived from the start order p after the sets ss are all that steps under these sets together give from the start. Everything
 -- that speaks of derivation goes through this name.
 abbrev pub After : Query → Order → List ℕ → Orderings
-After q p ss = Reach whole (rulesOf q ss) (Start p)
+After q p ss = Derived (rulesOf q ss) p

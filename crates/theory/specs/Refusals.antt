@@ -24,6 +24,7 @@ repeat-refused = 5
 abbrev pub twin-refused : ℕ
 twin-refused = 6
 
+-- Document 02, Req 05: never given.
 abbrev pub orderings-refused : ℕ
 orderings-refused = 7
 

@@ -5,7 +5,7 @@ use mathlib.Core.Logic.{_⊎_}
 use mathlib.Core.List.{List, [], _∷_, List·Memᴰ}
 use lib.IntN.{ℤ, pos, negsuc}
 use lib.ListN.{length, getD}
-use Rattle.theory.specs.Orders.{Order, Rule, fix, equal, Query, rulesOf}
+use Rattle.theory.specs.Orders.{Order, column, Rule, fix, equal}
 
 -- The order of the whole numbers, negative ones included: `pos n` is n and `negsuc n` is -(n + 1).
 abbrev pub Less : ℤ → ℤ → Type 0
@@ -25,7 +25,7 @@ cell row c = getD row c (pos 0)
 -- The first row compares below the second, the columns of the order taken in turn and ascending.
 abbrev pub Below : Row → Row → Order → Type 0
 Below x y [] = ⊥
-Below x y (c ∷ o) = Less (cell x c) (cell y c) ⊎ ((cell x c ≡ cell y c) × Below x y o)
+Below x y (e ∷ o) = Less (cell x (column e)) (cell y (column e)) ⊎ ((cell x (column e) ≡ cell y (column e)) × Below x y o)
 
 -- Rows *stand in* an order when no row compares below an earlier one.
 abbrev pub Stands : List Row → Order → Type 0
@@ -36,10 +36,22 @@ abbrev pub Obeys : List Row → Rule → Type 0
 Obeys rows (fix l r) = (x y : Row) → List·Memᴰ x rows → List·Memᴰ y rows → ((c : ℕ) → List·Memᴰ c l → cell x c ≡ cell y c) → cell x r ≡ cell y r
 Obeys rows (equal a b) = (x : Row) → List·Memᴰ x rows → cell x a ≡ cell x b
 
--- Rows obey every dependency of the sets ss.
-abbrev pub ObeysSets : Query → List ℕ → List Row → Type 0
-ObeysSets q ss rows = (r : Rule) → List·Memᴰ r (rulesOf q ss) → Obeys rows r
+-- Rows obey all of the rules.
+abbrev pub ObeysAll : List Rule → List Row → Type 0
+ObeysAll rs rows = (r : Rule) → List·Memᴰ r rs → Obeys rows r
 
--- Any rows stand in o that stand in p and obey every dependency of the sets ss.
-abbrev pub HoldsOfRows : Query → Order → List ℕ → Order → Type 0
-HoldsOfRows q p ss o = (rows : List Row) → Stands rows p → ObeysSets q ss rows → Stands rows o
+-- Any rows stand in o that stand in p and obey the rules.
+abbrev pub HoldsOfRows : List Rule → Order → Order → Type 0
+HoldsOfRows rs p o = (rows : List Row) → Stands rows p → ObeysAll rs rows → Stands rows o
+
+-- Two rows of n columns, each value 0 or 1, that stand in p, obey the rules and do not stand in o.
+pub record Counterexample (n : ℕ) (rs : List Rule) (p o : Order) : Type 0 where
+  pub one : Row
+  pub two : Row
+  pub one-width : length one ≡ n
+  pub two-width : length two ≡ n
+  pub one-values : (v : ℤ) → List·Memᴰ v one → (v ≡ pos 0) ⊎ (v ≡ pos 1)
+  pub two-values : (v : ℤ) → List·Memᴰ v two → (v ≡ pos 0) ⊎ (v ≡ pos 1)
+  pub stands : Stands (one ∷ two ∷ []) p
+  pub obeys : ObeysAll rs (one ∷ two ∷ [])
+  pub breaks : ¬ Stands (one ∷ two ∷ []) o

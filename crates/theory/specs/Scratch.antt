@@ -29,12 +29,8 @@ successorsPart = 4354
 abbrev pub startsPart : ℕ
 startsPart = 5378
 
--- The different sets of orderings under one choice, 8 times 32 bytes.
-abbrev pub statesPart : ℕ
-statesPart = 5386
-
 abbrev pub workLength : ℕ
-workLength = 5642
+workLength = 5386
 
 -- Behind a build, in the first bytes: the pairs of states that are reached together, a bit for each of 128 times 128.
 abbrev pub pairsLength : ℕ

@@ -30,6 +30,11 @@ module _ {A : Type 0} where
   every test [] = true
   every test (x ∷ xs) = test x && every test xs
 
+  -- the elements at which the test passes
+  abbrev pub those : (A → Bool) → List A → List A
+  those test [] = []
+  those test (x ∷ xs) = elim (test x) [ true ↦ x ∷ those test xs | false ↦ those test xs ]
+
   -- x is in the list
   abbrev pub member : (A → A → Bool) → A → List A → Bool
   member same x [] = false

@@ -12,7 +12,7 @@ use Rattle.theory.specs.Limits.{maxPairs, scratchLength}
 use Rattle.theory.specs.Orders.{Query, interesting, After}
 use Rattle.theory.specs.Machine.{AllBelow, runs, agree}
 use Rattle.theory.specs.Construction.{sizesOf}
-use Rattle.theory.specs.Refusals.{passed, space-refused, mismatch-refused, answer-refused, firstRefusal}
+use Rattle.theory.specs.Refusals.{passed, states-refused, space-refused, mismatch-refused, answer-refused, firstRefusal}
 use Rattle.theory.specs.Query.{Bytes, readQuery, queryRefusal}
 use Rattle.theory.specs.Table.{Table, numbersOf, producedIn, testedIn, setsIn, machineIn, tableRefusal}
 use Rattle.theory.specs.Build.{Constructed, too-many, table, construct, Constructs}
@@ -38,12 +38,12 @@ answerRefusal q ours t = pick (agree maxPairs (sizesOf q) (numbersOf ours) (mach
 unfoldable pub suppliedRefusal : Query → Table → Bytes → ℕ
 suppliedRefusal q ours t = firstRefusal (tableRefusal t) (firstRefusal (mismatchRefusal q t) (answerRefusal q ours t))
 
--- Where constructing is refused with 7 or 8, so is the trial.
+-- Where constructing is refused with 8, so is the trial.
 abbrev pub verifiedWith : Query → Constructed → Bytes → ℕ
-verifiedWith q (too-many n) t = n
-verifiedWith q (table ours n) t = suppliedRefusal q ours t
+verifiedWith q too-many t = states-refused
+verifiedWith q (table ours) t = suppliedRefusal q ours t
 
--- The outcome of a trial: the query's own checks, 1 to 6, 9 for scratch, 7 and 8; then the table's.
+-- The outcome of a trial: the query's own checks, 1 to 6, 9 for scratch and 8; then the table's.
 unfoldable pub verifyRefusal : Bytes → Bytes → ℕ → ℕ
 verifyRefusal query t scratch =
     firstRefusal (queryRefusal query) (pick (ltb scratch scratchLength) space-refused (verifiedWith (readQuery query) (construct (readQuery query)) t))
@@ -63,14 +63,13 @@ pub record Buildable (query : Bytes) (scratch : ℕ) : Type 0 where
   pub checked : queryRefusal query ≡ passed
   pub room : scratchLength ≤ scratch
   pub ours : Table
-  pub count : ℕ
-  pub constructed : Constructs (readQuery query) (table ours count)
+  pub constructed : Constructs (readQuery query) (table ours)
 
 -- What the outcome means: each refusal under exactly its condition, in the order of the list, and acceptance exactly where the table is faithful to the query.
 pub data Verdict (query t : Bytes) (scratch : ℕ) : ℕ → Type 0 where
   query-refused : queryRefusal query ≢ passed → Verdict query t scratch (queryRefusal query)
   scratch-short : queryRefusal query ≡ passed → scratch < scratchLength → Verdict query t scratch space-refused
-  not-constructed : {n : ℕ} → queryRefusal query ≡ passed → scratchLength ≤ scratch → Constructs (readQuery query) (too-many n) → Verdict query t scratch n
+  not-constructed : queryRefusal query ≡ passed → scratchLength ≤ scratch → Constructs (readQuery query) too-many → Verdict query t scratch states-refused
   form-refused : Buildable query scratch → tableRefusal t ≢ passed → Verdict query t scratch (tableRefusal t)
   sizes-differ : Buildable query scratch → tableRefusal t ≡ passed → ¬ SameSizes (readQuery query) t → Verdict query t scratch mismatch-refused
   answer-wrong : Buildable query scratch → tableRefusal t ≡ passed → SameSizes (readQuery query) t → WrongAnswer (readQuery query) t → Verdict query t scratch answer-refused

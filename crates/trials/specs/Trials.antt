@@ -1,18 +1,18 @@
--- Document 01, "Trials at the edges": the starred trials, as one table of queries and what is expected of each; and suppliers' tables on trial, as another.
+-- Document 01, "Trials at the edges", with those of document 02: the starred trials, as one table of queries and what is expected of each; and suppliers' tables on trial, as
+-- another.
 use Prim.Native.Nat.{ℕ, _<_}
 use mathlib.Core.Path.{_≡_}
-use mathlib.Core.Bool.{Bool, true, false, _&&_, not, Bool·beq}
+use mathlib.Core.Bool.{Bool, true, false, _&&_, Bool·beq}
 use mathlib.Core.List.{List, [], _∷_}
 use lib.Dec.{eqb, ltb}
 use lib.ListN.{length, getD}
-use Rattle.theory.specs.Limits.{maxNodes, scratchLength, longestTable}
+use Rattle.theory.specs.Limits.{scratchLength, longestTable}
 use Rattle.theory.specs.Tests.{Says, every, sameList}
-use Rattle.theory.specs.Orders.{Order, Query, interesting, After}
-use Rattle.theory.specs.Closure.{More, Exactly}
-use Rattle.theory.specs.Choices.{noSets, withSets}
-use Rattle.theory.specs.Machine.{AllBelow, runs}
-use Rattle.theory.specs.Construction.{Node, Marks, nodes, holdsIn}
-use Rattle.theory.specs.States.{orderingsUnder, State, states}
+use Rattle.theory.specs.Orders.{Query, interesting, rulesOf, After}
+use Rattle.theory.specs.Closure.{Exactly}
+use Rattle.theory.specs.Machine.{AllBelow, runs, numberedWithin}
+use Rattle.theory.specs.Settled.{isHeld}
+use Rattle.theory.specs.Construction.{sizesOf, answersOf, State}
 use Rattle.theory.specs.Refusals.{passed}
 use Rattle.theory.specs.Query.{Bytes, readQuery, queryRefusal}
 use Rattle.theory.specs.Table.{statesIn, machineIn}
@@ -21,13 +21,13 @@ use Rattle.theory.specs.Verification.{verifyRefusal}
 
 -- What is expected of a query.
 pub data Expectation : Type 0 where
-  -- the build gives this table, with so many nodes
-  table : Bytes → ℕ → Expectation
-  -- the build gives a table of so many rows and so many bytes, with so many nodes
-  builds : ℕ → ℕ → ℕ → Expectation
+  -- the build gives this table
+  table : Bytes → Expectation
+  -- the build gives a table of so many rows and so many bytes
+  builds : ℕ → ℕ → Expectation
   -- the build is refused with this number
   refusal : ℕ → Expectation
-  -- there are so many states, before merging
+  -- there are so many states
   state-count : ℕ → Expectation
   -- after a produced order, by number, and the sets an interesting order, by number, is held or not
   after : ℕ → List ℕ → ℕ → Bool → Expectation
@@ -42,32 +42,24 @@ pub record Trial : Type 0 where
 
 abbrev pub sameOutcome : Outcome → Outcome → Bool
 sameOutcome (refused m) (refused n) = eqb m n
-sameOutcome (refused m) (built t n) = false
-sameOutcome (built s m) (refused n) = false
-sameOutcome (built s m) (built t n) = sameList eqb s t && eqb m n
+sameOutcome (refused m) (built t) = false
+sameOutcome (built s) (refused n) = false
+sameOutcome (built s) (built t) = sameList eqb s t
 
 -- A trial's outcome, with room enough.
 abbrev pub outcomeOf : Bytes → Outcome
 outcomeOf query = outcome query scratchLength longestTable
 
--- The build gives a table of m rows and b bytes, with n nodes.
-pub record Builds (query : Bytes) (m b n : ℕ) : Type 0 where
+-- The build gives a table of m rows and b bytes.
+pub record Builds (query : Bytes) (m b : ℕ) : Type 0 where
   pub written : Bytes
-  pub gives : outcomeOf query ≡ built written n
+  pub gives : outcomeOf query ≡ built written
   pub rows-written : statesIn written ≡ m
   pub bytes-written : length written ≡ b
 
-abbrev pub hasSizes : Outcome → ℕ → ℕ → ℕ → Bool
-hasSizes (refused r) m b n = false
-hasSizes (built t k) m b n = eqb (statesIn t) m && (eqb (length t) b && eqb k n)
-
--- Derivation and states are spoken of only where the query passes checks 1 to 6 and has at most 256 nodes.
-pub record Admitted (query : Bytes) : Type 0 where
-  pub passes : queryRefusal query ≡ passed
-  pub few : ¬ More maxNodes (Node (readQuery query))
-
-abbrev pub isAdmitted : Bytes → List Order → Bool
-isAdmitted query ns = eqb (queryRefusal query) passed && not (ltb maxNodes (length ns))
+abbrev pub hasSizes : Outcome → ℕ → ℕ → Bool
+hasSizes (refused r) m b = false
+hasSizes (built t) m b = eqb (statesIn t) m && eqb (length t) b
 
 -- The numbers of a produced order of the query and of its sets.
 pub record Run (q : Query) (p : ℕ) (ss : List ℕ) : Type 0 where
@@ -77,51 +69,47 @@ pub record Run (q : Query) (p : ℕ) (ss : List ℕ) : Type 0 where
 abbrev pub isRun : Query → ℕ → List ℕ → Bool
 isRun q p ss = ltb p (length (q .produced)) && every (λ s. ltb s (q .sets)) ss
 
--- The orderings after a produced order and sets, by their numbers.
-abbrev pub orderingsAfter : Query → List Order → ℕ → List ℕ → Marks
-orderingsAfter q ns p ss = orderingsUnder q ns (getD (q .produced) p []) (withSets (noSets (q .sets)) ss)
-
 -- The row of a table at which a run arrives, and that two runs arrive at one row of the table that the build gives.
 abbrev pub rowAfter : Bytes → ℕ → List ℕ → ℕ
 rowAfter t p ss = runs (machineIn t) (machineIn t .start p) ss
 
 pub record OneRow (query : Bytes) (p : ℕ) (ss rs : List ℕ) : Type 0 where
   pub written : Bytes
-  pub count : ℕ
-  pub gives : outcomeOf query ≡ built written count
+  pub gives : outcomeOf query ≡ built written
   pub one : rowAfter written p ss ≡ rowAfter written p rs
 
 abbrev pub isOneRow : Outcome → ℕ → List ℕ → List ℕ → Bool
 isOneRow (refused r) p ss rs = false
-isOneRow (built t n) p ss rs = eqb (rowAfter t p ss) (rowAfter t p rs)
+isOneRow (built t) p ss rs = eqb (rowAfter t p ss) (rowAfter t p rs)
 
+-- Derivation and states are spoken of only where the query passes checks 1 to 6.
 -- The trial comes out as expected: a test that computes, ..
-unfoldable pub comesOut : Bytes → Query → List Order → Expectation → Bool
-comesOut query q ns (table b n) = sameOutcome (outcomeOf query) (built b n)
-comesOut query q ns (builds m b n) = hasSizes (outcomeOf query) m b n
-comesOut query q ns (refusal n) = sameOutcome (outcomeOf query) (refused n)
-comesOut query q ns (state-count n) = isAdmitted query ns && eqb (length (states q ns)) n
-comesOut query q ns (after p ss i held) =
-    isAdmitted query ns && (isRun q p ss && (ltb i (length (interesting q)) && Bool·beq (holdsIn ns (orderingsAfter q ns p ss) (getD (interesting q) i [])) held))
-comesOut query q ns (verified t n) = eqb (verifyRefusal query t scratchLength) n
-comesOut query q ns (same-row p ss rs) = isRun q p ss && (isRun q p rs && isOneRow (outcomeOf query) p ss rs)
+unfoldable pub comesOut : Bytes → Query → Expectation → Bool
+comesOut query q (table b) = sameOutcome (outcomeOf query) (built b)
+comesOut query q (builds m b) = hasSizes (outcomeOf query) m b
+comesOut query q (refusal n) = sameOutcome (outcomeOf query) (refused n)
+comesOut query q (state-count n) = eqb (queryRefusal query) passed && eqb (length (numberedWithin (answersOf q) n (sizesOf q))) n
+comesOut query q (after p ss i held) =
+    eqb (queryRefusal query) passed && (isRun q p ss && (ltb i (length (interesting q)) && Bool·beq (isHeld (rulesOf q ss) (getD (q .produced) p []) (getD (interesting q) i [])) held))
+comesOut query q (verified t n) = eqb (verifyRefusal query t scratchLength) n
+comesOut query q (same-row p ss rs) = isRun q p ss && (isRun q p rs && isOneRow (outcomeOf query) p ss rs)
 
 abbrev pub passes : Trial → Bool
-passes t = let q = readQuery (t .query) in let ns = nodes q in comesOut (t .query) q ns (t .expected)
+passes t = comesOut (t .query) (readQuery (t .query)) (t .expected)
 
 -- .. and what it means on the definitions.
-abbrev pub Meaning : Bytes → Query → List Order → Expectation → Type 0
-Meaning query q ns (table b n) = outcomeOf query ≡ built b n
-Meaning query q ns (builds m b n) = Builds query m b n
-Meaning query q ns (refusal n) = outcomeOf query ≡ refused n
-Meaning query q ns (state-count n) = Admitted query × Exactly n (State q ns)
-Meaning query q ns (after p ss i held) =
-    Admitted query × Run q p ss × (i < length (interesting q)) × Says (After q (getD (q .produced) p []) ss (getD (interesting q) i [])) held
-Meaning query q ns (verified t n) = verifyRefusal query t scratchLength ≡ n
-Meaning query q ns (same-row p ss rs) = Run q p ss × Run q p rs × OneRow query p ss rs
+abbrev pub Meaning : Bytes → Query → Expectation → Type 0
+Meaning query q (table b) = outcomeOf query ≡ built b
+Meaning query q (builds m b) = Builds query m b
+Meaning query q (refusal n) = outcomeOf query ≡ refused n
+Meaning query q (state-count n) = (queryRefusal query ≡ passed) × Exactly n (State q)
+Meaning query q (after p ss i held) =
+    (queryRefusal query ≡ passed) × Run q p ss × (i < length (interesting q)) × Says (After q (getD (q .produced) p []) ss (getD (interesting q) i [])) held
+Meaning query q (verified t n) = verifyRefusal query t scratchLength ≡ n
+Meaning query q (same-row p ss rs) = Run q p ss × Run q p rs × OneRow query p ss rs
 
 abbrev pub Meets : Bytes → Expectation → Type 0
-Meets query = Meaning query (readQuery query) (nodes (readQuery query))
+Meets query = Meaning query (readQuery query)
 
 -- The example: produced (0), (1,0), tested (0,1), (2), sets {0 → 1}, {1 = 2}.
 abbrev pub example : Bytes
@@ -179,10 +167,23 @@ through-an-equal = 3 ∷ 1 ∷ 1 ∷ 2 ∷ 2 ∷ 1 ∷ 2 ∷ 16 ∷ 65 ∷ 0 ∷
 abbrev pub three-in-force : Bytes
 three-in-force = 4 ∷ 1 ∷ 1 ∷ 3 ∷ 3 ∷ 1 ∷ 4 ∷ 16 ∷ 17 ∷ 18 ∷ 0 ∷ 255 ∷ 255 ∷ 255 ∷ 0 ∷ 1 ∷ 2 ∷ 3 ∷ 2 ∷ 3 ∷ 255 ∷ 255 ∷ 1 ∷ 2 ∷ 255 ∷ 255 ∷ 0 ∷ 1 ∷ 255 ∷ 255 ∷ []
 
--- The starred trials, in document 01's order, with the tables of document 02; behind them the running query, which has as many rows as its paper has states, three.
+-- Produced (a,b,d), tested (a,d), set {a → m, m → b}; a, b, d, m are 0, 1, 2, 3.
+abbrev pub settled-chain : Bytes
+settled-chain = 4 ∷ 1 ∷ 1 ∷ 1 ∷ 2 ∷ 3 ∷ 2 ∷ 16 ∷ 16 ∷ 0 ∷ 1 ∷ 2 ∷ 255 ∷ 0 ∷ 2 ∷ 255 ∷ 255 ∷ 0 ∷ 3 ∷ 255 ∷ 255 ∷ 3 ∷ 1 ∷ 255 ∷ 255 ∷ []
+
+-- Produced (time,axis,code), tested (time,code), set {time → axis}.
+abbrev pub time-axis-code : Bytes
+time-axis-code = 3 ∷ 1 ∷ 1 ∷ 1 ∷ 1 ∷ 3 ∷ 2 ∷ 16 ∷ 0 ∷ 1 ∷ 2 ∷ 255 ∷ 0 ∷ 2 ∷ 255 ∷ 255 ∷ 0 ∷ 1 ∷ 255 ∷ 255 ∷ []
+
+-- Produced (), seven constants in one set, all in tested orders.
+abbrev pub seven-constants : Bytes
+seven-constants = 7 ∷ 1 ∷ 3 ∷ 1 ∷ 7 ∷ 0 ∷ 3 ∷ 3 ∷ 1 ∷ 0 ∷ 0 ∷ 0 ∷ 0 ∷ 0 ∷ 0 ∷ 0 ∷ 255 ∷ 255 ∷ 255 ∷ 255 ∷ 0 ∷ 1 ∷ 2 ∷ 255 ∷ 3 ∷ 4 ∷ 5 ∷ 255 ∷ 6 ∷ 255 ∷ 255 ∷ 255 ∷ 0 ∷ 255 ∷ 255 ∷ 255 ∷ 1 ∷ 255 ∷ 255 ∷ 255 ∷ 2 ∷ 255 ∷ 255 ∷ 255 ∷ 3 ∷ 255 ∷ 255 ∷ 255 ∷ 4 ∷ 255 ∷ 255 ∷ 255 ∷ 5 ∷ 255 ∷ 255 ∷ 255 ∷ 6 ∷ 255 ∷ 255 ∷ 255 ∷ []
+
+-- The starred trials, in document 01's order, with the tables of document 02; behind them the running query, which has as many rows as its paper has states, three, and the
+-- trials of document 02's Req 05.
 abbrev pub trials : List Trial
 trials =
-    record { query = example; expected = table (4 ∷ 2 ∷ 2 ∷ 2 ∷ 0 ∷ 1 ∷ 2 ∷ 0 ∷ 1 ∷ 3 ∷ 2 ∷ 2 ∷ 3 ∷ 3 ∷ 1 ∷ 0 ∷ 2 ∷ 0 ∷ 5 ∷ 0 ∷ 10 ∷ 0 ∷ []) 10 } ∷
+    record { query = example; expected = table (4 ∷ 2 ∷ 2 ∷ 2 ∷ 0 ∷ 1 ∷ 2 ∷ 0 ∷ 1 ∷ 3 ∷ 2 ∷ 2 ∷ 3 ∷ 3 ∷ 1 ∷ 0 ∷ 2 ∷ 0 ∷ 5 ∷ 0 ∷ 10 ∷ 0 ∷ []) } ∷
     record { query = both-ways; expected = after 0 (0 ∷ 1 ∷ []) 1 true } ∷
     record { query = both-ways; expected = after 0 (1 ∷ 0 ∷ []) 1 true } ∷
     record { query = in-force-together; expected = after 0 (0 ∷ 1 ∷ []) 1 true } ∷
@@ -197,18 +198,22 @@ trials =
     record { query = with-empty-set; expected = same-row 0 (2 ∷ []) [] } ∷
     record { query = with-empty-set; expected = same-row 1 (1 ∷ 2 ∷ []) (1 ∷ []) } ∷
     record { query = seven-sets; expected = state-count 128 } ∷
-    record { query = seven-sets; expected = builds 128 1157 9 } ∷
+    record { query = seven-sets; expected = builds 128 1157 } ∷
     record { query = eight-sets; expected = state-count 256 } ∷
     record { query = eight-sets; expected = refusal 8 } ∷
     record { query = repeated-column; expected = refusal 5 } ∷
     record { query = column-past-the-end; expected = refusal 4 } ∷
-    record { query = running-query; expected = table (3 ∷ 2 ∷ 1 ∷ 2 ∷ 0 ∷ 1 ∷ 0 ∷ 0 ∷ 2 ∷ 1 ∷ 2 ∷ 2 ∷ 1 ∷ 0 ∷ 2 ∷ 0 ∷ 6 ∷ 0 ∷ []) 6 } ∷
-    record { query = running-query; expected = state-count 8 } ∷
+    record { query = running-query; expected = table (3 ∷ 2 ∷ 1 ∷ 2 ∷ 0 ∷ 1 ∷ 0 ∷ 0 ∷ 2 ∷ 1 ∷ 2 ∷ 2 ∷ 1 ∷ 0 ∷ 2 ∷ 0 ∷ 6 ∷ 0 ∷ []) } ∷
+    record { query = settled-chain; expected = after 0 [] 1 false } ∷
+    record { query = settled-chain; expected = after 0 (0 ∷ []) 1 true } ∷
+    record { query = time-axis-code; expected = after 0 [] 1 false } ∷
+    record { query = time-axis-code; expected = after 0 (0 ∷ []) 1 true } ∷
+    record { query = seven-constants; expected = table (2 ∷ 1 ∷ 3 ∷ 1 ∷ 0 ∷ 1 ∷ 1 ∷ 1 ∷ 0 ∷ 15 ∷ 0 ∷ []) } ∷
     []
 
--- Document 02, Req 01: suppliers' tables on trial. Accepted: our own, one with a row for each state of the construction, one with other state numbers, one with two rows
+-- Document 02, Req 01: suppliers' tables on trial. Accepted: our own, one with a row for each pair of a produced order and sets in force, one with other state numbers, one with two rows
 -- that behave alike twice over, one with a row that no start reaches. Refused: one with another number of tested orders; one that claims (b) from (a) by a pair of fixes; one made with the prefix test; one that is wrong only
--- after three sets.
+-- after three sets; one made without the step that takes a settled column out.
 abbrev pub supplied : List Trial
 supplied =
     record { query = example; expected = verified (4 ∷ 2 ∷ 2 ∷ 2 ∷ 0 ∷ 1 ∷ 2 ∷ 0 ∷ 1 ∷ 3 ∷ 2 ∷ 2 ∷ 3 ∷ 3 ∷ 1 ∷ 0 ∷ 2 ∷ 0 ∷ 5 ∷ 0 ∷ 10 ∷ 0 ∷ []) 0 } ∷
@@ -220,4 +225,5 @@ supplied =
     record { query = fix-pair; expected = verified (2 ∷ 1 ∷ 1 ∷ 1 ∷ 0 ∷ 1 ∷ 1 ∷ 1 ∷ 0 ∷ 3 ∷ 0 ∷ []) 13 } ∷
     record { query = through-an-equal; expected = verified (1 ∷ 1 ∷ 1 ∷ 2 ∷ 0 ∷ 0 ∷ 0 ∷ 1 ∷ 0 ∷ []) 13 } ∷
     record { query = three-in-force; expected = verified (4 ∷ 1 ∷ 1 ∷ 3 ∷ 0 ∷ 0 ∷ 0 ∷ 1 ∷ 1 ∷ 2 ∷ 1 ∷ 3 ∷ 2 ∷ 2 ∷ 3 ∷ 3 ∷ 3 ∷ 1 ∷ 0 ∷ 1 ∷ 0 ∷ 1 ∷ 0 ∷ 3 ∷ 0 ∷ []) 13 } ∷
+    record { query = time-axis-code; expected = verified (1 ∷ 1 ∷ 1 ∷ 1 ∷ 0 ∷ 0 ∷ 1 ∷ 0 ∷ []) 13 } ∷
     []

@@ -34,8 +34,8 @@ supplied-front q ours t = go (says-ltb tableFront (length t))
     go (holds h) = refused-alike _ _ (table-front t) (table-unpassed t h)
 
 verified-front : (q : Query) (c : Constructed) (t : Bytes) → verifiedWith q c (take tableFront t) ≡ verifiedWith q c t
-verified-front q (too-many n) t = refl
-verified-front q (table ours n) t = supplied-front q ours t
+verified-front q too-many t = refl
+verified-front q (table ours) t = supplied-front q ours t
 
 tables-front : (query t : Bytes) (scratch : ℕ) → verifyRefusal query (take tableFront t) scratch ≡ verifyRefusal query t scratch
 unfolding verifyRefusal

@@ -12,16 +12,17 @@ use borrow.Author.Tests.{eq-eqb, ne-eqb, lt-ltb, le-ltb, le-leb}
 use Rattle.theory.specs.Tests.{pick, Says, holds, fails}
 use Rattle.theory.specs.Limits.{scratchLength, longestTable}
 use Rattle.theory.specs.Machine.{SameAnswers}
-use Rattle.theory.specs.Orders.{Query}
+use Rattle.theory.specs.Orders.{WellFormed}
 use Rattle.theory.specs.Construction.{sizesOf}
 use Rattle.theory.specs.Scratch.{pairsLength}
-use Rattle.theory.specs.Refusals.{passed, space-refused, mismatch-refused, answer-refused}
+use Rattle.theory.specs.Refusals.{passed, states-refused, space-refused, mismatch-refused, answer-refused}
 use Rattle.theory.specs.Query.{Bytes, readQuery, queryRefusal}
 use Rattle.theory.specs.Table.{numbersOf, writeTable, machineIn, sizesIn, tableRefusal}
-use Rattle.theory.specs.Build.{Constructed, too-many, table, construct, Constructs, many-orderings, many-states, Outcome, refused, built, delivered, outcome, written, outputAfter, scratchAfter, zeroed}
+use Rattle.theory.specs.Build.{Constructed, too-many, table, construct, Constructs, Outcome, refused, built, delivered, outcome, written, outputAfter, scratchAfter, zeroed}
 use Rattle.theory.specs.Verification.{SameSizes, sameSizes, mismatchRefusal, answerRefusal, suppliedRefusal, verifiedWith, verifyRefusal}
 use Rattle.theory.proofs.Reflect.{says-one, says-as, says-true, true-says, false-says, says-eqb, says-ltb}
 use Rattle.theory.proofs.RefusalLaws.{refused-else}
+use Rattle.theory.proofs.ReadLaws.{query-formed}
 use Rattle.theory.proofs.PairLaws.{same-sym, same-trans}
 use Rattle.theory.proofs.MachineTable.{Limited, bytes-answer}
 use Rattle.theory.proofs.BuildLaws.{construct-means}
@@ -36,16 +37,11 @@ use Rattle.builder.proofs.AnswerLaws.{table-room}
 use Rattle.pairs.specs.Pairs.{Comparable}
 use Rattle.verify.specs.Own.{Own}
 
--- a refusal of constructing is one
-over : {q : Query} {n : ℕ} → Constructs q (too-many n) → n ≢ passed
-over (many-orderings _) e = omega arith
-over (many-states _ _) e = omega arith
-
 -- A build with room for every table, and what the trial's outcome is by it.
 pub data AfterBuild (query : Bytes) (scratch : ℕ) : Outcome → Type 0 where
   no-table : {n : ℕ} → n ≢ passed → ((t : Bytes) → n ≡ verifyRefusal query t scratch) → AfterBuild query scratch (refused n)
-  own-table : {ours : Bytes} {n : ℕ} → scratchLength ≤ scratch → Own query ours → ((t : Bytes) → verifiedWith (readQuery query) (construct (readQuery query)) t ≡ verifyRefusal query t scratch) →
-      AfterBuild query scratch (built ours n)
+  own-table : {ours : Bytes} → scratchLength ≤ scratch → Own query ours → ((t : Bytes) → verifiedWith (readQuery query) (construct (readQuery query)) t ≡ verifyRefusal query t scratch) →
+      AfterBuild query scratch (built ours)
 
 module _ (query : Bytes) (scratch : ℕ) where
   module _ (c : queryRefusal query ≡ passed) where
@@ -55,10 +51,10 @@ module _ (query : Bytes) (scratch : ℕ) where
       past t = rw (eq-eqb (queryRefusal query) passed c, le-ltb scratch scratchLength s, verifyRefusal)
 
       delivered-after : (k : Constructed) → construct (readQuery query) ≡ k → Constructs (readQuery query) k → AfterBuild query scratch (delivered k longestTable)
-      delivered-after (too-many n) e d = no-table (over d) (λ t. ap (λ k. verifiedWith (readQuery query) k t) (sym e) ∙ past t)
-      delivered-after (table k n) e d =
+      delivered-after too-many e d = no-table {n = states-refused} (λ z. omega arith) (λ t. ap (λ k. verifiedWith (readQuery query) k t) (sym e) ∙ past t)
+      delivered-after (table k) e d =
           rw (le-ltb longestTable (length (writeTable k)) (table-room query c d), delivered)
-          (own-table s (record { checked = c; contents = k; count = n; constructed = e; bytes = refl }) past)
+          (own-table s (record { checked = c; contents = k; constructed = e; bytes = refl }) past)
 
     short-after : {s : Bool} → Says (scratch < scratchLength) s → AfterBuild query scratch (elim s [ true ↦ refused space-refused | false ↦ delivered (construct (readQuery query)) longestTable ])
     unfolding verifyRefusal
@@ -131,11 +127,14 @@ module _ {query ours : Bytes} (o : Own query ours) (t : Bytes) where
   abbrev pub OutcomeIs : ℕ → Type 0
   OutcomeIs r = r ≡ verifiedWith (readQuery query) (construct (readQuery query)) t
 
-  facts : Made (readQuery query) (o .contents) (o .count)
+  facts : Made (readQuery query) (o .contents)
   facts = made (readQuery query) (subst (Constructs (readQuery query)) (o .constructed) (construct-means (readQuery query)))
 
   limits : Limited (sizesOf (readQuery query))
   limits = query-limited query (o .checked)
+
+  formed : WellFormed (readQuery query)
+  formed = query-formed query (o .checked)
 
   by-checks : {r : ℕ} → r ≡ suppliedRefusal (readQuery query) (o .contents) t → OutcomeIs r
   by-checks e = e ∙ ap (λ k. verifiedWith (readQuery query) k t) (sym (o .constructed))
@@ -155,7 +154,7 @@ module _ {query ours : Bytes} (o : Own query ours) (t : Bytes) where
       same-sizes = says-true (says-sizes (readQuery query) t) (refused-else (sameSizes (readQuery query) t) sizes (omega arith) .0)
 
       own-sizes : SameSizes (readQuery query) ours
-      own-sizes = subst (SameSizes (readQuery query)) (sym (o .bytes)) (faithful-sizes (made-faithful limits facts))
+      own-sizes = subst (SameSizes (readQuery query)) (sym (o .bytes)) (faithful-sizes (made-faithful limits facts formed))
 
       pub comparable : Comparable ours t
       comparable =
@@ -182,5 +181,5 @@ module _ {query ours : Bytes} (o : Own query ours) (t : Bytes) where
           let n = numbersOf (o .contents) in
           let k = machineIn t in
           let told = subst (λ y. Says (SameAnswers y m k) r) (sizes-are (readQuery query) ours own-sizes) s in
-          let same = says-one (says-as (same-trans z n m k (same-sym z m n own-same)) (same-trans z m n k own-same) told) (answers-say limits facts t passes same-sizes) in
+          let same = says-one (says-as (same-trans z n m k (same-sym z m n own-same)) (same-trans z m n k own-same) told) (answers-say formed limits facts t passes same-sizes) in
           by-checks (rw (passes, sizes) (ap (λ b. pick b passed answer-refused) same))

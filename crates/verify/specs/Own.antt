@@ -1,5 +1,4 @@
 -- The table of a query's own, beside which a supplier's table is put.
-use Prim.Native.Nat.{ℕ}
 use mathlib.Core.Path.{_≡_}
 use Rattle.theory.specs.Refusals.{passed}
 use Rattle.theory.specs.Query.{Bytes, readQuery, queryRefusal}
@@ -10,6 +9,5 @@ use Rattle.theory.specs.Build.{table, construct}
 pub record Own (query ours : Bytes) : Type 0 where
   pub checked : queryRefusal query ≡ passed
   pub contents : Table
-  pub count : ℕ
-  pub constructed : construct (readQuery query) ≡ table contents count
+  pub constructed : construct (readQuery query) ≡ table contents
   pub bytes : ours ≡ writeTable contents

@@ -14,8 +14,9 @@ pub use bytes::{
 };
 pub use lookups::{asks_after, lookups, rearranged};
 pub use queries::{
-    any_query, chain_of_equals, constants_among_produced, dependency, joined_starts, most_orders,
-    nearly_query, own_column_per_set, query, query_of_many_states, query_of_sizes,
+    all_orderings, any_query, chain_of_equals, chains_with_table, constants, dependency,
+    joined_starts, longest_table, most_orders, near_the_most_rows, nearly_query,
+    own_column_per_set, query, query_of_chains, query_of_many_rows, query_of_sizes,
     query_with_table, some_columns, with_equal_orders, Shape, QUERY_EDGES,
 };
 pub use rows::rows;

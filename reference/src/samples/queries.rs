@@ -3,12 +3,13 @@
 use std::collections::HashSet;
 
 use crate::builder::build_table;
+use crate::derivation::Ordering;
 use crate::query::{Dependency, Order, Query};
 use crate::random::Random;
 use crate::samples::bytes::{any_byte, any_sizes, damaged};
 
-/// Sizes of a query at and past their limits, and the most sets that can be built
-/// with eight produced orders and with one.
+/// Sizes of a query at and past their limits, and the most sets with which 8 never
+/// comes, whether with eight produced orders or with one.
 pub const QUERY_EDGES: [&[u8]; 5] = [
     &[0, 1, 12, 13, 255],
     &[0, 1, 8, 9, 255],
@@ -45,13 +46,14 @@ impl Shape {
         dependencies: (0, 16),
     };
     /// All sizes but for the sets: the choices of four sets from eight starts are
-    /// 128 states, so 8 is never given.
+    /// 128 pairs, which have no more rows, so 8 is never given.
     pub const FEW_SETS: Self = Self {
         sets: (0, 4),
         ..Self::FULL
     };
     /// All sizes but for the produced orders and the sets: the choices of seven
-    /// sets from one start are 128 states, so 8 is never given.
+    /// sets from one start are 128 pairs, which have no more rows, so 8 is never
+    /// given.
     pub const ONE_START: Self = Self {
         produced: (1, 1),
         sets: (0, 7),
@@ -66,7 +68,7 @@ impl Shape {
         sets: (8, 8),
         dependencies: (16, 16),
     };
-    /// Small enough for uncut derivation.
+    /// Few columns, so that orderings can be derived.
     pub const SMALL: Self = Self {
         columns: (1, 5),
         produced: (1, 3),
@@ -75,20 +77,29 @@ impl Shape {
         sets: (0, 3),
         dependencies: (0, 6),
     };
-    /// More columns than in small queries, and still few enough orderings for
-    /// uncut derivation.
+    /// Few columns, with orders and dependencies enough for chains.
+    pub const CHAINS: Self = Self {
+        columns: (3, 5),
+        produced: (1, 3),
+        tested: (2, 5),
+        lengths: (1, 4),
+        sets: (1, 3),
+        dependencies: (2, 8),
+    };
+    /// More columns, orders and sets than in small queries, and still few enough
+    /// columns for deriving orderings.
     pub const MIDDLE: Self = Self {
-        columns: (1, 7),
+        columns: (4, 6),
         produced: (1, 5),
         tested: (0, 8),
         lengths: (0, 4),
         sets: (0, 6),
-        dependencies: (0, 6),
+        dependencies: (0, 8),
     };
 }
 
 /// Produced (a), and per set its own b fixed by a, with (a,b) tested: any choice
-/// of sets is a state with a row of its own.
+/// of sets has a row of its own.
 pub fn own_column_per_set(sets: u8) -> Query {
     Query {
         columns: 12,
@@ -101,9 +112,42 @@ pub fn own_column_per_set(sets: u8) -> Query {
     }
 }
 
+/// Seven sets with a column of its own for each, which have 128 rows. With `joined`
+/// they have one fewer: the columns of the first six sets settle that of the last, by
+/// way of another column, so the last set brings nothing to the six others. With
+/// `unsorted` there is an unsorted scan besides, which has one row, as no set gives it
+/// an order.
+pub fn near_the_most_rows(joined: bool, unsorted: bool) -> Query {
+    let mut query = own_column_per_set(7);
+    if joined {
+        query.dependencies.extend([
+            Dependency::fix(5, &[1, 2, 3], 8),
+            Dependency::fix(5, &[4, 5, 8], 7),
+        ]);
+    }
+    if unsorted {
+        query.produced.push(vec![]);
+    }
+    query
+}
+
+/// The most orders and sets, and the most rows: any choice of four constants has a
+/// row of its own from each of eight starts. Two sets bring each constant.
+pub fn longest_table() -> Query {
+    Query {
+        columns: 12,
+        produced: (0..8).map(|c| vec![c]).collect(),
+        tested: (8..12).flat_map(|k| [vec![k], vec![k, k - 8]]).collect(),
+        sets: 8,
+        dependencies: (0..8)
+            .map(|set| Dependency::fix(set, &[], 8 + set % 4))
+            .collect(),
+    }
+}
+
 /// Produced the first of some columns, tested the last one, and per set one column
 /// more that is equal to the one before: the last one is in order after all sets,
-/// so any choice of sets is a state, told from others by the sets it has not.
+/// so any choice of sets has a row, told from others by the sets it has not.
 pub fn chain_of_equals(sets: u8) -> Query {
     Query {
         columns: sets + 1,
@@ -116,8 +160,8 @@ pub fn chain_of_equals(sets: u8) -> Query {
     }
 }
 
-/// Produced (a) and (b), and every set says that a = b. Both starts have the same
-/// orderings after any set, so there is one state more than choices of sets.
+/// Produced (a) and (b), and every set says that a = b. Both starts hold the same
+/// after any set, so there are three rows, however many sets.
 pub fn joined_starts(sets: u8) -> Query {
     Query {
         columns: 2,
@@ -128,9 +172,9 @@ pub fn joined_starts(sets: u8) -> Query {
     }
 }
 
-/// The most orders, and four sets, for which there is always room. Set i fixes column
-/// 11 by columns i and i + 4, with each such (c) produced and (c,11) tested: each
-/// start, and each start after its set, has a row.
+/// The most orders, and four sets. Set i fixes column 11 by columns i and i + 4, with
+/// each such (c) produced and (c,11) tested: each start, and each start after its
+/// set, has a row.
 pub fn most_orders() -> Query {
     Query {
         columns: 12,
@@ -141,21 +185,18 @@ pub fn most_orders() -> Query {
     }
 }
 
-/// Four constants, and produced orders over other columns that they go into:
-/// 41 nodes without those columns, 45 for each of three first columns, 13 for
-/// each of six pairs and 1 for each triple, of which two give 256.
-pub fn constants_among_produced(triples: usize) -> Query {
-    let pairs = (4..7).flat_map(|first| [7, 8].map(|second| vec![first, second]));
-    let mut produced: Vec<Order> = pairs.collect();
-    for order in &mut produced[..triples] {
-        order.push(9);
-    }
+/// An unsorted scan, and one set of so many constants, all in tested orders.
+pub fn constants(columns: u8) -> Query {
+    let constants: Vec<u8> = (0..columns).collect();
     Query {
-        columns: 10,
-        produced,
-        tested: vec![vec![0, 1, 2], vec![3]],
+        columns,
+        produced: vec![vec![]],
+        tested: constants.chunks(3).map(<[u8]>::to_vec).collect(),
         sets: 1,
-        dependencies: (0..4).map(|c| Dependency::fix(0, &[], c)).collect(),
+        dependencies: constants
+            .iter()
+            .map(|&k| Dependency::fix(0, &[], k))
+            .collect(),
     }
 }
 
@@ -192,6 +233,11 @@ pub fn query_with_table(random: &mut Random, shape: Shape) -> (Query, Vec<u8>) {
     first_with_table(|| query(random, shape))
 }
 
+/// A random query of chains that is not refused, with its table.
+pub fn chains_with_table(random: &mut Random, shape: Shape) -> (Query, Vec<u8>) {
+    first_with_table(|| query_of_chains(random, shape))
+}
+
 /// A random query that differs from this one in one order or one dependency, if
 /// at all, and is not refused, with its table.
 pub fn near_query_with_table(random: &mut Random, query: &Query) -> (Query, Vec<u8>) {
@@ -223,12 +269,12 @@ fn with_an_item_changed(random: &mut Random, query: &Query) -> Query {
     changed
 }
 
-/// A random query with many states and rows: most sets fix a column of their own,
-/// so that nearly every choice of sets has a row.
-pub fn query_of_many_states(random: &mut Random) -> Query {
-    let sets = random.between((4, 7)) as u8;
+/// A random query with many rows: most sets fix a column of their own, so that
+/// nearly every choice of sets has a row.
+pub fn query_of_many_rows(random: &mut Random) -> Query {
+    let sets = random.between((4, 8)) as u8;
     let mut query = own_column_per_set(sets);
-    for order in &mut query.tested {
+    for order in query.produced.iter_mut().chain(&mut query.tested) {
         order.push(9);
     }
     for _ in 0..random.below(3) {
@@ -238,6 +284,59 @@ pub fn query_of_many_states(random: &mut Random) -> Query {
         query.produced.push(some_columns(random, 12, (2, 3)));
     }
     query
+}
+
+/// A random query in which columns are settled by way of others. Most dependencies
+/// are chains of fixes with one left column, through columns in any sequence, some of
+/// them closed to a cycle; they lie in any sequence and in any sets. Most tested
+/// orders are produced ones with entries left out, put in or put elsewhere.
+pub fn query_of_chains(random: &mut Random, shape: Shape) -> Query {
+    let mut query = query(random, shape);
+    let (columns, sets) = (query.columns, query.sets);
+    let mut chained = Vec::new();
+    while sets > 0 && chained.len() < query.dependencies.len() {
+        if random.one_in(3) {
+            chained.push(dependency(random, columns, sets));
+            continue;
+        }
+        let mut chain = some_columns(random, columns, (2, 5));
+        if chain.len() > 2 && random.one_in(3) {
+            chain.push(chain[0]);
+        }
+        let links = chain.windows(2);
+        chained.extend(links.map(|link| {
+            let set = random.below(sets.into()) as u8;
+            match random.below(6) {
+                0 => Dependency::equal(set, link[0], link[1]),
+                _ => Dependency::fix(set, &link[..1], link[1]),
+            }
+        }));
+    }
+    random.shuffle(&mut chained);
+    chained.truncate(query.dependencies.len());
+    query.dependencies = chained;
+
+    for place in 0..query.tested.len() {
+        let order = &query.produced[random.below(query.produced.len())];
+        let order = nearly_order(random, order, columns);
+        if !random.one_in(4) && !query.interesting().any(|other| *other == order) {
+            query.tested[place] = order;
+        }
+    }
+    query
+}
+
+/// An order with some entries left out, and perhaps one put in or put elsewhere.
+fn nearly_order(random: &mut Random, order: &[u8], columns: u8) -> Order {
+    let mut near: Order = order.to_vec();
+    near.retain(|_| !random.one_in(3));
+    if random.one_in(2) {
+        let column = random.below(columns.into()) as u8;
+        near.retain(|&entry| entry != column);
+        near.truncate(3);
+        near.insert(random.below(near.len() + 1), column);
+    }
+    near
 }
 
 /// A random query that has one interesting order twice.
@@ -257,17 +356,17 @@ pub fn with_equal_orders(random: &mut Random) -> Query {
 /// The bytes of a query of any kind: small or large, read or refused.
 pub fn any_query(random: &mut Random) -> Vec<u8> {
     match random.below(10) {
-        0..=3 => query(random, Shape::SMALL).write(),
-        4 => query(random, Shape::FULL).write(),
-        5 => query_of_many_states(random).write(),
-        6 => {
-            let largest = Shape {
-                dependencies: Shape::FULL.dependencies,
-                ..Shape::LARGEST
-            };
-            let shape = [Shape::FEW_SETS, Shape::ONE_START, largest][random.below(3)];
+        0..=1 => query(random, Shape::SMALL).write(),
+        2..=3 => query_of_chains(random, Shape::CHAINS).write(),
+        4 => {
+            let shape = [Shape::FULL, Shape::FEW_SETS, Shape::ONE_START][random.below(3)];
             query(random, shape).write()
         }
+        5 => {
+            let shape = [Shape::FULL, Shape::FEW_SETS, Shape::ONE_START][random.below(3)];
+            query_of_chains(random, shape).write()
+        }
+        6 => query_of_many_rows(random).write(),
         7 => {
             let query = query(random, Shape::FULL).write();
             damaged(random, &query)
@@ -330,4 +429,20 @@ pub fn some_columns(random: &mut Random, columns: u8, lengths: (usize, usize)) -
     random.shuffle(&mut columns);
     columns.truncate(length);
     columns
+}
+
+/// All orderings of so many columns, the shorter ones first.
+pub fn all_orderings(columns: u8) -> Vec<Ordering> {
+    let mut orderings: Vec<Ordering> = vec![vec![]];
+    let mut next = 0;
+    while next < orderings.len() {
+        for column in 0..columns {
+            if !orderings[next].contains(&column) {
+                let longer = [orderings[next].as_slice(), &[column]].concat();
+                orderings.push(longer);
+            }
+        }
+        next += 1;
+    }
+    orderings
 }

@@ -1,17 +1,16 @@
 //! Tables that a supplier may send for a query: right ones that differ from the
 //! query's own, ones with a change, and ones that are far from it.
 
-use crate::construction::Construction;
+use crate::construction::of_pairs;
+use crate::merging::walked;
 use crate::query::Query;
 use crate::random::Random;
 use crate::refusal;
 use crate::samples::bytes::damaged;
 use crate::samples::queries::{near_query_with_table, query_with_table, Shape};
 use crate::samples::tables::{any_table, table_of_sizes};
-use crate::table::{State, Table};
+use crate::table::{State, Table, MOST_STATES};
 
-/// The most states that a table may have.
-const MOST_STATES: usize = 128;
 /// How many rows are put into a table at most, one by one.
 const FEW_ROWS: usize = 4;
 /// How many rows are put into a table at most, in a chain.
@@ -22,7 +21,8 @@ const MANY_ROWS: usize = 128;
 pub enum Kind {
     /// The query's own table.
     Own,
-    /// It has a row for each state of the construction.
+    /// It has a row for each pair of a produced order and a choice of sets, where
+    /// there is room for them; otherwise it is the query's own.
     Unmerged,
     /// Its states are numbered otherwise.
     Renumbered,
@@ -91,7 +91,7 @@ pub fn supplied(random: &mut Random, kind: Kind, query: &Query, own: &Table) -> 
     let accepted = |table: Table| (table.write(), Some(Ok(())));
     let (table, known) = match kind {
         Kind::Own => accepted(own.clone()),
-        Kind::Unmerged => accepted(unmerged(query)),
+        Kind::Unmerged => accepted(unmerged(query).unwrap_or_else(|| own.clone())),
         Kind::Renumbered => accepted(renumbered(random, own)),
         Kind::TwinRows => accepted(with_twin_rows(random, own)),
         Kind::Chain => accepted(with_a_chain(random, own)),
@@ -138,11 +138,11 @@ pub fn supplied(random: &mut Random, kind: Kind, query: &Query, own: &Table) -> 
     Supplied { table, known }
 }
 
-/// The table with a row for each state of a query's construction, which must be
-/// within the limits.
-pub fn unmerged(query: &Query) -> Table {
-    let construction = Construction::of(query).expect("the query has a table");
-    Table::of(query, &construction)
+/// The table with a row for each pair of a produced order and a choice of sets in
+/// force, numbered by the walk, where there is room for them.
+pub fn unmerged(query: &Query) -> Option<Table> {
+    let table = walked(&of_pairs(query));
+    (table.states.len() <= MOST_STATES).then_some(table)
 }
 
 /// A right table: any of the ways to differ from the query's own, in turn.
@@ -181,7 +181,7 @@ pub fn renumbered(random: &mut Random, table: &Table) -> Table {
     let mut sequence: Vec<usize> = (0..table.states.len()).collect();
     random.shuffle(&mut sequence);
     let mut numbers = vec![0; sequence.len()];
-    for (number, &state) in (0..).zip(&sequence) {
+    for (number, &state) in sequence.iter().enumerate() {
         numbers[state] = number;
     }
     let states = sequence.iter().map(|&state| table.states[state].clone());
@@ -190,7 +190,7 @@ pub fn renumbered(random: &mut Random, table: &Table) -> Table {
         states,
         ..table.clone()
     };
-    leading(renumbered, |state| numbers[usize::from(state)])
+    leading(renumbered, |state| numbers[state])
 }
 
 /// A table with copies of some rows, as far as there is room. Starts and
@@ -204,8 +204,8 @@ fn with_twin_rows(random: &mut Random, table: &Table) -> Table {
         longer.states.push(table.states[state].clone());
     }
     leading(longer, |state| {
-        let twins = &twins[usize::from(state)];
-        twins[random.below(twins.len())] as u8
+        let twins = &twins[state];
+        twins[random.below(twins.len())]
     })
 }
 
@@ -216,7 +216,7 @@ fn with_a_chain(random: &mut Random, table: &Table) -> Table {
     let rows = table.states.iter().enumerate();
     let kept = rows.flat_map(|(state, row)| {
         let sets = row.successors.iter().enumerate();
-        sets.filter(move |(_, &next)| usize::from(next) == state)
+        sets.filter(move |(_, &next)| next == state)
             .map(move |(set, _)| (state, set))
     });
     let kept: Vec<(usize, usize)> = kept.collect();
@@ -228,8 +228,8 @@ fn with_a_chain(random: &mut Random, table: &Table) -> Table {
     for _ in 0..rows_to_add(random, table, MANY_ROWS) {
         let next = longer.states.len();
         let mut copy = longer.states[last].clone();
-        copy.successors[set] = next as u8;
-        longer.states[last].successors[set] = next as u8;
+        copy.successors[set] = next;
+        longer.states[last].successors[set] = next;
         longer.states.push(copy);
         last = next;
     }
@@ -242,7 +242,7 @@ fn with_unreachable_rows(random: &mut Random, table: &Table) -> Table {
     let mut longer = table.clone();
     let states = table.states.len() + rows_to_add(random, table, FEW_ROWS);
     while longer.states.len() < states {
-        let successors = (0..table.sets).map(|_| random.below(states) as u8);
+        let successors = (0..table.sets).map(|_| random.below(states));
         longer.states.push(State {
             successors: successors.collect(),
             held: random.below(1 << table.interesting()) as u16,
@@ -291,9 +291,9 @@ fn one_change(random: &mut Random, table: &Table, change: Change) -> Option<Tabl
 }
 
 /// Changes a state's number to another one; nothing where there is no other.
-fn lead_elsewhere(random: &mut Random, state: &mut u8, states: usize) -> Option<()> {
+fn lead_elsewhere(random: &mut Random, state: &mut usize, states: usize) -> Option<()> {
     let further = 1 + some_place(random, states - 1)?;
-    *state = ((usize::from(*state) + further) % states) as u8;
+    *state = (*state + further) % states;
     Some(())
 }
 
@@ -313,9 +313,8 @@ fn some_place(random: &mut Random, count: usize) -> Option<usize> {
 /// Of each row, whether some start and run of sets reach it.
 fn reached_rows(table: &Table) -> Vec<bool> {
     let mut reached = vec![false; table.states.len()];
-    let mut waiting: Vec<&u8> = table.starts.iter().collect();
+    let mut waiting: Vec<&usize> = table.starts.iter().collect();
     while let Some(&state) = waiting.pop() {
-        let state = usize::from(state);
         if !reached[state] {
             reached[state] = true;
             waiting.extend(&table.states[state].successors);
@@ -332,7 +331,7 @@ fn rows_to_add(random: &mut Random, table: &Table, most: usize) -> usize {
 }
 
 /// A table with every start and successor led to another state.
-fn leading(mut table: Table, mut to: impl FnMut(u8) -> u8) -> Table {
+fn leading(mut table: Table, mut to: impl FnMut(usize) -> usize) -> Table {
     let rows = table.states.iter_mut();
     let successors = rows.flat_map(|state| &mut state.successors);
     for state in table.starts.iter_mut().chain(successors) {
@@ -353,7 +352,7 @@ pub fn longest_chain() -> (Query, [Table; 2]) {
         dependencies: vec![],
     };
     let states = (1..=MOST_STATES).map(|next| State {
-        successors: vec![next.min(MOST_STATES - 1) as u8],
+        successors: vec![next.min(MOST_STATES - 1)],
         held: 1,
     });
     let right = Table {

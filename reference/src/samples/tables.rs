@@ -3,8 +3,8 @@
 use crate::random::Random;
 use crate::samples::bytes::{any_byte, any_sizes};
 
-/// Sizes of a table at and past their limits, and the most sets of a query that
-/// can be built with eight produced orders and with one.
+/// Sizes of a table at and past their limits, and the most sets with which a query
+/// is never refused with 8, whether with eight produced orders or with one.
 pub const TABLE_EDGES: [&[u8]; 4] = [
     &[0, 1, 128, 129, 255],
     &[0, 1, 8, 9, 255],

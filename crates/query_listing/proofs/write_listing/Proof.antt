@@ -39,7 +39,7 @@ slice-aggregate-list c = let s = c .before .before .before .before .before .befo
 list-requires : tie.Need-list-requires
 list-requires c κs = let s = c .before .before .before .before .before .before .before .before .before .before .before in let b = c .before .before .before .before .before .before .build in
     let t = table-listing (now (s .args .query)) (now (s .args .work)) (s .pre) (b .ensures .0) (b .ensures .1 .0) (c .before .before .if1 .left) in
-    (t .form, t .few, omega arith)
+    (t .form, omega arith)
 
 same-length-2 : tie.Need-same-length-2
 same-length-2 c = search needs

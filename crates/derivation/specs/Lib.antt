@@ -1,3 +1,0 @@
--- What the functions of this crate promise, beside the theory.
-pub mod Keys
-pub mod Results

@@ -1,3 +1,0 @@
--- What the proofs of this crate's functions share.
-pub mod ChangeLaws
-pub mod RunLaws

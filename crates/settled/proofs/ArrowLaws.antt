@@ -1,0 +1,155 @@
+-- Rules as arrows and arrows as pairs of masks: pairs written one after the other, the rules for which they stand, and the arrows in force.
+use Prim.Native.Nat.{ℕ, zero, suc, _+_, _/_, _%_, _^_, _<_, _≤_}
+use native.Mathlib.Nat.{add-zero, add-suc}
+use native.Mathlib.Omega.{arith}
+use mathlib.Core.Path.{_≡_, refl, sym, _∙_, ap, subst}
+use mathlib.Core.Bool.{Bool, true, false}
+use mathlib.Core.Logic.{inl, inr, ⊎-elim}
+use mathlib.Core.List.{List, [], _∷_, _++_, map, flatten, append-nil, append-assoc, List·Memᴰ, List·Memᴰ·head, List·Memᴰ·tail, List·Memᴰ·not-nil, List·Memᴰ·eq-of-singleton}
+use lib.Dec.{eqb}
+use lib.ListN.{length, getD, set, length-append, length-set, List·getD-append}
+use lib.Seq.{getD-at, getD-set-same, getD-set-other}
+use Rattle.theory.specs.Tests.{pick, Says, holds, fails, those, upFrom, bitsOf}
+use Rattle.theory.specs.Orders.{Rule, fix, equal, columnsOf, rulesIn}
+use Rattle.theory.specs.Choices.{inForce}
+use Rattle.theory.specs.Settled.{Settled, fixed, equalled, isEqual}
+use Rattle.theory.specs.Query.{Bytes, setCount, orderCount, dependencyCount, dependencyAt, readQuery}
+use Rattle.theory.proofs.Reflect.{says-eqb, says-true, true-says}
+use Rattle.theory.proofs.ListLaws.{member-getD, getD-member, member-flatten-map, flatten-map-member}
+use Rattle.theory.proofs.RowLaws.{all-cons}
+use Rattle.theory.proofs.ChoiceNumbers.{bits-entry}
+use Rattle.theory.proofs.PassedLaws.{Passed}
+use Rattle.orders.specs.Orders.{inMask}
+use Rattle.settled.specs.Masks.{Narrow, Inside, Closed, StandFor, rulesAt}
+use Rattle.settled.specs.Parts.{MaskOf, Sound, Arrow, arrow, arrows, arrowsAt, PairIs, Written, Adding}
+
+-- no pair, and one more
+pub written-none : (left right : List ℕ) → Written [] left right 0
+written-none left right = record { many = refl; pairs = λ i h. absurd (omega arith) }
+
+module _ {xs : List Arrow} {left right : List ℕ} {n : ℕ} (a : Arrow) (f t : ℕ) where
+  written-more : Written xs left right n → n < length left → n < length right → MaskOf (a .from) f → MaskOf (a .to ∷ []) t
+      → Written (xs ++ (a ∷ [])) (set left n f) (set right n t) (n + 1)
+  written-more w l r mf mt =
+      record {
+        many = length-append xs (a ∷ []) ∙ omega (arith, w .many);
+        pairs = λ i h. go i h (says-eqb i n);
+      }
+    where
+      go : (i : ℕ) → i < n + 1 → {b : Bool} → Says (i ≡ n) b → PairIs (getD (xs ++ (a ∷ [])) i (arrow [] 0)) (set left n f) (set right n t) i
+      go i h (holds e) =
+          rw (e, getD-at xs a [] (arrow [] 0) n (w .many), getD-set-same left n f 0 l, getD-set-same right n t 0 r) (mf, mt)
+      go i h (fails e) =
+          rw (List·getD-append xs (a ∷ []) (arrow [] 0) i (omega (arith, w .many)), getD-set-other left n i f 0 e, getD-set-other right n i t 0 e)
+          (w .pairs i (omega arith))
+
+-- no arrow, one, and several after others
+module _ (left right : List ℕ) (n : ℕ) where
+  pub adding-none : Adding [] left right n left right n
+  adding-none = record { left-long = refl; right-long = refl; few = omega arith; written = λ before w. rw append-nil w }
+
+  pub adding-one : n < length left → n < length right → (a : Arrow) (f t : ℕ) → MaskOf (a .from) f → MaskOf (a .to ∷ []) t
+      → Adding (a ∷ []) left right n (set left n f) (set right n t) (n + 1)
+  adding-one l r a f t mf mt =
+      record { left-long = length-set left n f; right-long = length-set right n t; few = omega arith; written = λ before w. written-more a f t w l r mf mt }
+
+pub adding-more : {xs ys : List Arrow} {left right left′ right′ left″ right″ : List ℕ} {n r s : ℕ}
+    → Adding xs left right n left′ right′ r → Adding ys left′ right′ r left″ right″ s → Adding (xs ++ ys) left right n left″ right″ s
+adding-more {xs} {ys} v w =
+    record {
+      left-long = w .left-long ∙ v .left-long;
+      right-long = w .right-long ∙ v .right-long;
+      few = omega (arith, v .few, w .few, length-append xs ys);
+      written = λ before k. rw append-assoc at (w .written (before ++ xs) (v .written before k));
+    }
+
+-- a rule has at most two arrows, and so has a dependency
+few-arrows : (only : Bool) (x : Rule) → length (arrows only x) ≤ 2
+few-arrows true (fix l r) = omega arith
+few-arrows false (fix l r) = omega arith
+few-arrows only (equal a b) = omega arith
+
+pub few-at : (only : Bool) (b : Bytes) (x i : ℕ) → length (arrowsAt only b x i) ≤ 2
+few-at only b x i = let d = dependencyAt b (orderCount b + i) in go (eqb (x / 2 ^ d .set % 2) 1) (d .rule)
+  where
+    go : (t : Bool) (r : Rule) → length (pick t (arrows only r) []) ≤ 2
+    go true r = few-arrows only r
+    go false r = omega arith
+
+-- Columns that w settles, if they are all from which the arrow goes, settle the one to which it goes.
+abbrev Settles : List Rule → List ℕ → Arrow → Type 0
+Settles rs w a = ((c : ℕ) → List·Memᴰ c (a .from) → Settled rs w c) → Settled rs w (a .to)
+
+-- so do the arrows of the rules
+rule-settles : {rs : List Rule} {w : List ℕ} (x : Rule) → List·Memᴰ x rs → (a : Arrow) → List·Memᴰ a (arrows false x) → Settles rs w a
+rule-settles {rs} {w} (fix l r) i = all-cons {P = Settles rs w} (fixed i) (λ b k. absurd (List·Memᴰ·not-nil k))
+rule-settles {rs} {w} (equal c d) i =
+    all-cons {P = Settles rs w} (λ h. equalled (inl i) (h c (List·Memᴰ·head refl)))
+    (all-cons {P = Settles rs w} (λ h. equalled (inr i) (h d (List·Memᴰ·head refl))) (λ b k. absurd (List·Memᴰ·not-nil k)))
+
+-- pairs that are the arrows of the rules stand for them
+module _ {rs : List Rule} {left right : List ℕ} {n : ℕ} (v : Written (flatten (map (arrows false) rs)) left right n) where
+  pairs-sound : (i : ℕ) → i < n → (w : List ℕ) → Sound rs w (getD left i 0) → Sound rs w (getD right i 0)
+  pairs-sound i h w s c k =
+      let a = getD (flatten (map (arrows false) rs)) i (arrow [] 0) in
+      let p = v .pairs i h in
+      let m = member-flatten-map (arrows false) rs (member-getD (flatten (map (arrows false) rs)) i (arrow [] 0) (omega (arith, v .many))) in
+      subst (Settled rs w) (sym (List·Memᴰ·eq-of-singleton (says-true (p .1 c) k))) (rule-settles (m .0) (m .1) a (m .2) (λ d j. s d (true-says (p .0 d) j)))
+
+  module _ (m : ℕ) (none : (i : ℕ) → i < n → Inside (getD left i 0) m → Inside (getD right i 0) m) where
+    arrow-closed : {a : Arrow} (x : Rule) → List·Memᴰ x rs → List·Memᴰ a (arrows false x) → ((c : ℕ) → List·Memᴰ c (a .from) → inMask m c ≡ true) → inMask m (a .to) ≡ true
+    arrow-closed {a} x i j h =
+        let t = getD-member (arrow [] 0) (flatten-map-member (arrows false) i j) in
+        let b : t .0 < n = omega (arith, t .1, v .many) in
+        let p : PairIs a left right (t .0) = subst (λ (y : Arrow). PairIs y left right (t .0)) (t .2) (v .pairs (t .0) b) in
+        none (t .0) b (λ c k. h c (says-true (p .0 c) k)) (a .to) (true-says (p .1 (a .to)) (List·Memᴰ·head refl))
+
+    pairs-closed : Closed rs m
+    pairs-closed =
+        record {
+          fixes = λ l r i h. arrow-closed (fix l r) i (List·Memᴰ·head refl) h;
+          equals = λ a b s h.
+              let one : (c : ℕ) → List·Memᴰ c (a ∷ []) → inMask m c ≡ true =
+              (λ c k. subst (λ y. inMask m y ≡ true) (sym (List·Memᴰ·eq-of-singleton k)) h) in
+              ⊎-elim (λ i. arrow-closed (equal a b) i (List·Memᴰ·head refl) one) (λ i. arrow-closed (equal b a) i (List·Memᴰ·tail (List·Memᴰ·head refl)) one) s;
+        }
+
+  pub written-stands : StandFor rs left right n
+  written-stands = record { sound = pairs-sound; complete = pairs-closed }
+
+-- the arrows of the equals alone
+pub only-equals : (rs : List Rule) → flatten (map (arrows true) rs) ≡ flatten (map (arrows false) (those isEqual rs))
+unfolding flatten
+only-equals [] = refl
+only-equals (fix l r ∷ rs) = only-equals rs
+only-equals (equal a b ∷ rs) = ap (λ l. arrows false (equal a b) ++ l) (only-equals rs)
+
+-- the arrows of the dependencies in force are those of the rules in force: one more, from a dependency on, and all
+arrows-next : (only t s : Bool) (x : Rule) {xs : List Arrow} (l : List Rule) → s ≡ t → xs ≡ flatten (map (arrows only) l)
+    → pick t (arrows only x) [] ++ xs ≡ flatten (map (arrows only) (pick s (x ∷ l) l))
+unfolding flatten
+arrows-next only true s x l e h = rw e (ap (λ y. arrows only x ++ y) h)
+arrows-next only false s x l e h = rw e h
+
+module _ (only : Bool) (b : Bytes) (x : ℕ) where
+  arrows-from : (k n : ℕ) → ((i : ℕ) → i < k + n → dependencyAt b (orderCount b + i) .set < setCount b)
+      → flatten (map (arrowsAt only b x) (upFrom k n)) ≡ flatten (map (arrows only) (rulesIn (inForce (bitsOf (setCount b) x)) (map (dependencyAt b) (upFrom (orderCount b + k) n))))
+  unfolding flatten
+  arrows-from k zero h = refl
+  arrows-from k (suc n) h =
+      let d = dependencyAt b (orderCount b + k) in
+      let on = inForce (bitsOf (setCount b) x) in
+      arrows-next only (eqb (x / 2 ^ d .set % 2) 1) (on (d .set)) (d .rule) (rulesIn on (map (dependencyAt b) (upFrom (suc (orderCount b + k)) n)))
+      (bits-entry (setCount b) x (d .set) (h k (omega arith)))
+      (arrows-from (suc k) n (λ i l. h i (omega arith)) ∙ ap (λ j. flatten (map (arrows only) (rulesIn on (map (dependencyAt b) (upFrom j n))))) (add-suc (orderCount b) k))
+
+  pub arrows-in-force : Passed b → flatten (map (arrowsAt only b x) (upFrom 0 (dependencyCount b))) ≡ flatten (map (arrows only) (rulesAt b x))
+  unfolding readQuery
+  arrows-in-force p =
+      arrows-from 0 (dependencyCount b) (λ i h. p .dependency (orderCount b + i) (omega arith) (omega arith) .set)
+      ∙ ap (λ j. flatten (map (arrows only) (rulesIn (inForce (bitsOf (setCount b) x)) (map (dependencyAt b) (upFrom j (dependencyCount b)))))) (add-zero (orderCount b))
+
+-- a mask has room for a dependency's columns
+pub dependency-narrow : (b : Bytes) → Passed b → (i : ℕ) → i < dependencyCount b → Narrow (columnsOf (dependencyAt b (orderCount b + i) .rule))
+dependency-narrow b p i h c k =
+    omega (arith, p .dependency (orderCount b + i) (omega arith) (omega arith) .columns .below c k, p .sized .few-columns)

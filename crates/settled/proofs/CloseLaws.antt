@@ -1,0 +1,128 @@
+-- Pairs used on a mask: one, one pass, and passes until nothing is added; and the masks of single columns, closed.
+use Prim.Native.Nat.{ℕ, zero, suc, _+_, _^_, _<_, _≤_}
+use native.Mathlib.Nat.{not-suc-le-zero}
+use native.Mathlib.Omega.{arith}
+use mathlib.Core.Path.{_≡_, sym, _∙_, ap}
+use mathlib.Core.Bool.{Bool, true}
+use mathlib.Core.Logic.{_⊎_, inl, inr, ⊎-elim}
+use mathlib.Core.List.{List, [], _∷_, List·Memᴰ}
+use lib.Bits.{bitOr}
+use lib.ListN.{length, getD, set}
+use lib.Seq.{getD-set-same, getD-set-other}
+use Rattle.theory.specs.Tests.{pick, Says, holds, fails, those}
+use Rattle.theory.specs.Orders.{Rule}
+use Rattle.theory.specs.Settled.{Settled, among, fixed, equalled, isEqual}
+use Rattle.theory.proofs.Reflect.{says-eqb, says-true, true-says, says-one}
+use Rattle.theory.proofs.SettledLaws.{says-settled}
+use Rattle.orders.specs.Orders.{inMask}
+use Rattle.settled.specs.Masks.{Inside, Closed, StandFor, SettledMask, ClassesOf}
+use Rattle.settled.specs.Parts.{used, pass, Sound, Closes}
+use Rattle.settled.proofs.MaskLaws.{says-both, or-keeps, or-only, or-more, or-inside, inside-or, mask-one}
+
+-- one pair: it adds no more than its right columns, and these only to a mask that has the left ones
+module _ (l r m : ℕ) where
+  used-more : m ≤ used l r m
+  used-more = go (says-eqb (bitOr m l) m)
+    where
+      go : {b : Bool} → Says (bitOr m l ≡ m) b → m ≤ pick b (bitOr m r) m
+      go (holds e) = or-more m r
+      go (fails n) = omega arith
+
+  used-keeps : Inside m (used l r m)
+  used-keeps c h = go (says-eqb (bitOr m l) m)
+    where
+      go : {b : Bool} → Says (bitOr m l ≡ m) b → inMask (pick b (bitOr m r) m) c ≡ true
+      go (holds e) = or-keeps m r c h
+      go (fails n) = h
+
+  used-only : (c : ℕ) → inMask (used l r m) c ≡ true → (inMask m c ≡ true) ⊎ (Inside l m × (inMask r c ≡ true))
+  used-only c = go (says-eqb (bitOr m l) m)
+    where
+      go : {b : Bool} → Says (bitOr m l ≡ m) b → inMask (pick b (bitOr m r) m) c ≡ true → (inMask m c ≡ true) ⊎ (Inside l m × (inMask r c ≡ true))
+      go (holds e) h = ⊎-elim inl (λ k. inr (or-inside m l e, k)) (or-only m r c h)
+      go (fails n) h = inl h
+
+  used-closed : used l r m ≡ m → Inside l m → Inside r m
+  used-closed = go (says-eqb (bitOr m l) m)
+    where
+      go : {b : Bool} → Says (bitOr m l ≡ m) b → pick b (bitOr m r) m ≡ m → Inside l m → Inside r m
+      go (holds e) same h = or-inside m r same
+      go (fails n) same h = absurd (n (inside-or l m h))
+
+-- one pass: it adds to the mask, and no more than is settled
+module _ (left right : List ℕ) where
+  pub pass-more : (n m : ℕ) → m ≤ pass left right n m
+  pass-more zero m = omega arith
+  pass-more (suc n) m = omega (arith, pass-more n m, used-more (getD left n 0) (getD right n 0) (pass left right n m))
+
+  pass-keeps : (n m : ℕ) → Inside m (pass left right n m)
+  pass-keeps zero m c h = h
+  pass-keeps (suc n) m c h = used-keeps (getD left n 0) (getD right n 0) (pass left right n m) c (pass-keeps n m c h)
+
+  pass-sound : {rs : List Rule} (n : ℕ) → ((i : ℕ) → i < n → (w : List ℕ) → Sound rs w (getD left i 0) → Sound rs w (getD right i 0))
+      → {w : List ℕ} (m : ℕ) → Sound rs w m → Sound rs w (pass left right n m)
+  pass-sound zero gives m s c h = s c h
+  pass-sound (suc n) gives {w} m s c h =
+      let before = pass-sound n (λ i k. gives i (omega arith)) m s in
+      ⊎-elim (before c) (λ t. gives n (omega arith) w (λ d k. before d (t .0 d k)) c (t .1)) (used-only (getD left n 0) (getD right n 0) (pass left right n m) c h)
+
+  -- where it adds nothing, no pair does
+  pass-closed : (n m : ℕ) → pass left right n m ≡ m → (i : ℕ) → i < n → Inside (getD left i 0) m → Inside (getD right i 0) m
+  pass-closed zero m e i h = absurd (not-suc-le-zero h)
+  pass-closed (suc n) m e i h =
+      let same : pass left right n m ≡ m = omega (arith, pass-more n m, used-more (getD left n 0) (getD right n 0) (pass left right n m)) in
+      go same (λ k. pass-closed n m same i k) (says-eqb i n)
+    where
+      go : pass left right n m ≡ m → (i < n → Inside (getD left i 0) m → Inside (getD right i 0) m) → {b : Bool} → Says (i ≡ n) b
+          → Inside (getD left i 0) m → Inside (getD right i 0) m
+      go same rest (holds k) = rw k (used-closed (getD left n 0) (getD right n 0) m (ap (used (getD left n 0) (getD right n 0)) (sym same) ∙ e))
+      go same rest (fails k) = rest (omega arith)
+
+-- a closed mask that has w has all that w settles
+closed-has : {rs : List Rule} {w : List ℕ} {m : ℕ} → Closed rs m → ((c : ℕ) → List·Memᴰ c w → inMask m c ≡ true) → {c : ℕ} → Settled rs w c → inMask m c ≡ true
+closed-has k h (among i) = h _ i
+closed-has k h (fixed {l} {r} i f) = k .fixes l r i (λ c j. closed-has k h (f c j))
+closed-has k h (equalled {a} {b} s t) = k .equals a b s (closed-has k h t)
+
+-- The mask grew from one to the other by passes.
+pub record Growing (left right : List ℕ) (n m r : ℕ) : Type 0 where
+  pub keeps : Inside m r
+  pub sound : (rs : List Rule) (w : List ℕ) → StandFor rs left right n → Sound rs w m → Sound rs w r
+
+module _ {left right : List ℕ} {n : ℕ} where
+  -- no pass, one more, and the end: a pass that adds nothing
+  pub growing-none : (m : ℕ) → Growing left right n m m
+  growing-none m = record { keeps = λ c h. h; sound = λ rs w f s. s }
+
+  pub growing-more : {m r : ℕ} → Growing left right n m r → Growing left right n m (pass left right n r)
+  growing-more {r} g =
+      record {
+        keeps = λ c h. pass-keeps left right n r c (g .keeps c h);
+        sound = λ rs w f s. pass-sound left right n (f .sound) r (g .sound rs w f s);
+      }
+
+  pub growing-end : {m r : ℕ} → Growing left right n m r → pass left right n r ≡ r → Closes left right n m r
+  growing-end {m} {r} g e rs w f s h c =
+      says-both (inMask r c) (g .sound rs w f s c) (closed-has (f .complete r (pass-closed left right n r e)) (λ d k. g .keeps d (h d k)))
+
+-- Mask c, for each c below i, has exactly the columns that column c settles.
+abbrev pub Classed : List ℕ → List ℕ → ℕ → List ℕ → ℕ → Type 0
+Classed left right n classes i = (rs : List Rule) → StandFor rs left right n → (c : ℕ) → c < i → SettledMask rs (c ∷ []) (getD classes c 0)
+
+module _ (left right : List ℕ) (n : ℕ) (classes : List ℕ) where
+  -- none, and one more
+  pub classed-none : Classed left right n classes 0
+  classed-none rs f c h = absurd (not-suc-le-zero h)
+
+  pub classed-more : (i r : ℕ) → i < length classes → Classed left right n classes i → Closes left right n (2 ^ i) r → Classed left right n (set classes i r) (i + 1)
+  classed-more i r l k closes rs f c h = go (says-eqb c i)
+    where
+      go : {b : Bool} → Says (c ≡ i) b → SettledMask rs (c ∷ []) (getD (set classes i r) c 0)
+      go (holds e) =
+          rw (e, getD-set-same classes i r 0 l)
+          (closes rs (i ∷ []) f (λ d t. among (says-true (mask-one i d) t)) (λ d t. true-says (mask-one i d) t))
+      go (fails e) = rw (getD-set-other classes i c r 0 e) (k rs f c (omega arith))
+
+  -- under the equals of the rules these are the classes
+  pub classed-end : (rs : List Rule) → StandFor (those isEqual rs) left right n → Classed left right n classes 16 → ClassesOf rs classes
+  classed-end rs f k c x h = says-one (k (those isEqual rs) f c h x) (says-settled (those isEqual rs) (c ∷ []) x)

@@ -1,0 +1,191 @@
+-- The closure test, entry by entry: entries passed over, an entry met or missed, and the end.
+use Prim.Native.Nat.{ℕ, zero, suc, _+_, _-_, _^_, _<_, _≤_}
+use native.Mathlib.Numerals.{add-one}
+use native.Mathlib.Omega.{arith}
+use mathlib.Core.Path.{_≡_, refl, sym, _∙_, ap, subst}
+use mathlib.Core.Bool.{Bool, true, false, true≢false, false≢true}
+use mathlib.Core.Logic.{⊎-elim}
+use mathlib.Core.List.{List, [], _∷_, _++_, map-append, List·Memᴰ·not-nil, List·Memᴰ·append-cases, List·Memᴰ·eq-of-singleton, Memᴰ·append-left, Memᴰ·append-right, List·Memᴰ·head}
+use lib.Bits.{bitOr}
+use lib.Dec.{eqb}
+use lib.ListN.{length, take, drop, getD, drop-of-length-le}
+use lib.Seq.{take-suc, drop-cons}
+use Rattle.theory.specs.Tests.{pick, Says, holds, fails, member}
+use Rattle.theory.specs.Orders.{Order, Rule, column, columns}
+use Rattle.theory.specs.Settled.{Settled, among, settledColumns, alike, fromUnsettled, entryHeld, heldBehind, isHeld}
+use Rattle.theory.proofs.Reflect.{says-true, true-says, says-one, says-ltb}
+use Rattle.theory.proofs.BitLaws.{raised-has, raised-keeps, raised-only}
+use Rattle.theory.proofs.SettledLaws.{settled-through, says-settled}
+use Rattle.orders.specs.Orders.{inMask}
+use Rattle.settled.specs.Masks.{StandFor, SettledMask, ClassesOf}
+use Rattle.settled.specs.Parts.{Skipped, meets, Closes}
+use Rattle.settled.proofs.MaskLaws.{says-both, mask-none}
+
+-- one column more behind the first i of an order
+columns-more : (o : Order) (i : ℕ) → i < length o → columns (take (suc i) o) ≡ columns (take i o) ++ (column (getD o i 0) ∷ [])
+columns-more o i h = ap columns (take-suc o i 0 h) ∙ map-append column (take i o) (getD o i 0 ∷ [])
+
+-- from the place behind the first
+skipped-next : {m : ℕ} {l : List ℕ} {i to : ℕ} → Skipped m l i to → i < to → Skipped m l (suc i) to
+skipped-next k h = record { forth = h; within = k .within; passed = λ j b a. k .passed j b (omega arith); stopped = k .stopped }
+
+-- a mask that has what w settles tells it as the test does
+module _ {rs : List Rule} {w : List ℕ} (m : ℕ) (s : SettledMask rs w m) where
+  mask-tells : (c : ℕ) → member eqb c (settledColumns rs w) ≡ inMask m c
+  mask-tells c = says-one (says-settled rs w c) (s c)
+
+  -- a settled column more settles nothing more
+  mask-stays : (c : ℕ) → inMask m c ≡ true → SettledMask rs (w ++ (c ∷ [])) m
+  mask-stays c h d =
+      says-both (inMask m d) (λ e. settled-through (λ x k. among (Memᴰ·append-left (c ∷ []) k)) (says-true (s d) e))
+      (λ t. true-says (s d) (settled-through (λ x k. ⊎-elim among (λ i. subst (Settled rs w) (sym (List·Memᴰ·eq-of-singleton i)) (says-true (s c) h)) (List·Memᴰ·append-cases w k)) t))
+
+  -- closed again with a column more, it has what the column and w settle
+  mask-grows : {left right : List ℕ} {n : ℕ} (c r : ℕ) → StandFor rs left right n → Closes left right n (bitOr m (2 ^ c)) r → SettledMask rs (w ++ (c ∷ [])) r
+  mask-grows c r f closes =
+      closes rs (w ++ (c ∷ [])) f
+      (λ d h. ⊎-elim (λ e. among (Memᴰ·append-right w (List·Memᴰ·head e))) (λ e. settled-through (λ x k. among (Memᴰ·append-left (c ∷ []) k)) (says-true (s d) e)) (raised-only m c d h))
+      (λ d k. ⊎-elim (λ i. raised-keeps m c d (true-says (s d) (among i))) (λ i. let same : d ≡ c = List·Memᴰ·eq-of-singleton i in rw same (raised-has m c)) (List·Memᴰ·append-cases w k))
+
+  -- the first entry of an ordering by its test
+  abbrev byFirst : ℕ → Order → Bool → Order
+  byFirst e r b = elim b [ true ↦ fromUnsettled (settledColumns rs w) r | false ↦ e ∷ r ]
+
+  -- what is left of an ordering, from its first unsettled entry on
+  left-from : (l : Order) (to n i : ℕ) → n + i ≡ to → Skipped m l i to → fromUnsettled (settledColumns rs w) (drop i l) ≡ drop to l
+  left-from l to zero i e k = go (says-ltb i (length l))
+    where
+      same : i ≡ to
+      same = omega arith
+
+      go : {b : Bool} → Says (i < length l) b → fromUnsettled (settledColumns rs w) (drop i l) ≡ drop to l
+      go (holds h) =
+          rw (← same, drop-cons l i 0 h) (ap (byFirst (getD l i 0) (drop (suc i) l)) (mask-tells (getD l i 0) ∙ rw (← same) at (k .stopped (omega arith))))
+      go (fails h) = rw (← same, drop-of-length-le l {i = i} (omega arith))
+  left-from l to (suc n) i e k =
+      rw (drop-cons l i 0 (omega (arith, k .within)))
+      (ap (byFirst (getD l i 0) (drop (suc i) l)) (mask-tells (getD l i 0) ∙ k .passed i (omega arith) (omega arith)) ∙ left-from l to n (suc i) (omega arith) (skipped-next k (omega arith)))
+
+module _ (rs : List Rule) (s : List ℕ) (r : Order) (e : ℕ) (goOn : Order → Bool) where
+  -- the test of an entry by what is compared: whether the two columns are alike, what is left from the first unsettled entry on, and whether the entry is settled
+  abbrev byClass : Order → Bool → Bool
+  byClass rest b = elim b [ true ↦ goOn rest | false ↦ false ]
+
+  abbrev byRest : Order → Bool
+  byRest l = elim l [ [] ↦ false | x ∷ rest ↦ byClass rest (alike rs (column e) (column x)) ]
+
+  abbrev byMask : Bool → Bool
+  byMask b = elim b [ true ↦ goOn r | false ↦ byRest (fromUnsettled s r) ]
+
+  -- an entry that is settled
+  entry-settled : member eqb (column e) s ≡ true → entryHeld rs s r e goOn ≡ goOn r
+  entry-settled h = ap byMask h
+
+  module _ (h : member eqb (column e) s ≡ false) where
+    -- one that is not, with nothing left, and with another entry left
+    entry-missed : fromUnsettled s r ≡ [] → entryHeld rs s r e goOn ≡ false
+    entry-missed k = ap byMask h ∙ ap byRest k
+
+    entry-met : (x : ℕ) (rest : Order) (b : Bool) → fromUnsettled s r ≡ x ∷ rest → alike rs (column e) (column x) ≡ b → entryHeld rs s r e goOn ≡ byClass rest b
+    entry-met x rest b k a = ap byMask h ∙ ap byRest k ∙ ap (byClass rest) a
+
+-- The test is at place i of the order o and place j of the produced order p, and the mask m has what the first i columns of o settle.
+pub record Testing (rs : List Rule) (p o : Order) (i j m : ℕ) : Type 0 where
+  pub mask : SettledMask rs (columns (take i o)) m
+  pub rest : isHeld rs p o ≡ heldBehind rs (columns (take i o)) (drop j p) (drop i o)
+
+module _ (rs : List Rule) (p o : Order) where
+  -- the test begins at the first entries, with what no columns settle
+  testing-begins : (m : ℕ) → SettledMask rs [] m → Testing rs p o 0 0 m
+  unfolding isHeld
+  testing-begins m s = record { mask = s; rest = refl }
+
+  -- what the test does at place i
+  at-entry : (i : ℕ) (r : Order) → i < length o
+      → heldBehind rs (columns (take i o)) r (drop i o)
+      ≡ entryHeld rs (settledColumns rs (columns (take i o))) r (getD o i 0) (λ rest. heldBehind rs (columns (take (suc i) o)) rest (drop (suc i) o))
+  at-entry i r h =
+      ap (heldBehind rs (columns (take i o)) r) (drop-cons o i 0 h)
+      ∙ ap (λ v. entryHeld rs (settledColumns rs (columns (take i o))) r (getD o i 0) (λ rest. heldBehind rs v rest (drop (suc i) o))) (sym (columns-more o i h))
+
+  module _ {i j m : ℕ} (t : Testing rs p o i j m) where
+    -- one settled entry is passed over
+    testing-passes : i < length o → inMask m (getD o i 0) ≡ true → Testing rs p o (suc i) j m
+    testing-passes h k =
+        record {
+          mask = rw (columns-more o i h) (mask-stays m (t .mask) (getD o i 0) k);
+          rest = t .rest ∙ at-entry i (drop j p) h ∙ entry-settled rs (settledColumns rs (columns (take i o))) (drop j p) (getD o i 0) _ (mask-tells m (t .mask) (getD o i 0) ∙ k);
+        }
+
+    -- an entry that is not settled uses up the first of what is left that is not, at place k, if the two are alike
+    module _ (h : i < length o) (unsettled : inMask m (getD o i 0) ≡ false) (narrow : getD o i 0 < 16) {k : ℕ} (skipped : Skipped m p j k) (classes : List ℕ) (classed : ClassesOf rs classes) where
+      testing-meets : (b : Bool) → meets classes (getD o i 0) p k ≡ b
+          → isHeld rs p o ≡ pick b (heldBehind rs (columns (take (suc i) o)) (drop (suc k) p) (drop (suc i) o)) false
+      testing-meets b e =
+          t .rest ∙ at-entry i (drop j p) h
+          ∙ go (settledColumns rs (columns (take i o))) (λ rest. heldBehind rs (columns (take (suc i) o)) rest (drop (suc i) o))
+          (mask-tells m (t .mask) (getD o i 0) ∙ unsettled) (left-from m (t .mask) p k (k - j) j (omega (arith, skipped .forth)) skipped) (says-ltb k (length p)) b e
+        where
+          go : (s : List ℕ) (goOn : Order → Bool) → member eqb (getD o i 0) s ≡ false → fromUnsettled s (drop j p) ≡ drop k p → {l : Bool} → Says (k < length p) l
+              → (b : Bool) → pick l (inMask (getD classes (getD o i 0) 0) (getD p k 0)) false ≡ b → entryHeld rs s (drop j p) (getD o i 0) goOn ≡ pick b (goOn (drop (suc k) p)) false
+          go s goOn u f (holds l) true e =
+              entry-met rs s (drop j p) (getD o i 0) goOn u (getD p k 0) (drop (suc k) p) true (f ∙ drop-cons p k 0 l) (sym (classed (getD o i 0) (getD p k 0) narrow) ∙ e)
+          go s goOn u f (holds l) false e =
+              entry-met rs s (drop j p) (getD o i 0) goOn u (getD p k 0) (drop (suc k) p) false (f ∙ drop-cons p k 0 l) (sym (classed (getD o i 0) (getD p k 0) narrow) ∙ e)
+          go s goOn u f (fails l) true e = absurd (false≢true e)
+          go s goOn u f (fails l) false e = entry-missed rs s (drop j p) (getD o i 0) goOn u (f ∙ drop-of-length-le p {i = k} (omega arith))
+
+  -- several are
+  testing-skips : {j m : ℕ} (to n i : ℕ) → n + i ≡ to → Testing rs p o i j m → Skipped m o i to → Testing rs p o to j m
+  testing-skips to zero i e t k = let same : i ≡ to = omega arith in rw (← same) t
+  testing-skips to (suc n) i e t k =
+      testing-skips to n (suc i) (omega arith) (testing-passes t (omega (arith, k .within)) (k .passed i (omega arith) (omega arith))) (skipped-next k (omega arith))
+
+-- The same under all rules for which the pairs stand and whose classes these are.
+abbrev pub Midway : List ℕ → List ℕ → ℕ → List ℕ → Order → Order → ℕ → ℕ → ℕ → Type 0
+Midway left right n classes p o i j m = (rs : List Rule) → StandFor rs left right n → ClassesOf rs classes → Testing rs p o i j m
+
+-- What the test says is b, under all these rules.
+abbrev pub Said : List ℕ → List ℕ → ℕ → List ℕ → Order → Order → Bool → Type 0
+Said left right n classes p o b = (rs : List Rule) → StandFor rs left right n → ClassesOf rs classes → b ≡ isHeld rs p o
+
+module _ (left right : List ℕ) (n : ℕ) (classes : List ℕ) (p o : Order) where
+  -- the test begins, behind the entries that no columns settle
+  pub midway-begins : (m i : ℕ) → Closes left right n 0 m → Skipped m o 0 i → Midway left right n classes p o i 0 m
+  midway-begins m i closes k rs f cs =
+      testing-skips rs p o i i 0 (omega arith)
+      (testing-begins rs p o m (closes rs [] f (λ c h. among (says-true (mask-none c) h)) (λ c h. absurd (List·Memᴰ·not-nil h)))) k
+
+  module _ (i j m : ℕ) (t : Midway left right n classes p o i j m) where
+    -- no entry is left
+    pub midway-end : length o ≤ i → Said left right n classes p o true
+    midway-end h rs f cs = sym (t rs f cs .rest ∙ ap (heldBehind rs (columns (take i o)) (drop j p)) (drop-of-length-le o {i = i} h))
+
+    module _ (h : i < length o) (unsettled : inMask m (getD o i 0) ≡ false) (narrow : getD o i 0 < 16) (k : ℕ) (skipped : Skipped m p j k) where
+      -- an entry is not met
+      pub midway-fails : false ≡ meets classes (getD o i 0) p k → Said left right n classes p o false
+      midway-fails e rs f cs = sym (testing-meets rs p o (t rs f cs) h unsettled narrow skipped classes cs false (sym e))
+
+      module _ (e : true ≡ meets classes (getD o i 0) p k) where
+        -- the last entry is met
+        pub midway-last : i + 1 ≡ length o → Said left right n classes p o true
+        midway-last last rs f cs =
+            sym (testing-meets rs p o (t rs f cs) h unsettled narrow skipped classes cs true (sym e) ∙ ap (heldBehind rs (columns (take (suc i) o)) (drop (suc k) p)) (drop-of-length-le o {i = suc i} (omega arith)))
+
+        -- an entry is met and others follow, of which those that are settled now are passed over
+        pub midway-next : (r to : ℕ) → Closes left right n (bitOr m (2 ^ getD o i 0)) r → Skipped r o (i + 1) to → Midway left right n classes p o to (k + 1) r
+        midway-next r to closes s rs f cs =
+            let met : Testing rs p o (suc i) (suc k) r =
+            record {
+              mask = rw (columns-more o i h) (mask-grows m (t rs f cs .mask) (getD o i 0) r f closes);
+              rest = testing-meets rs p o (t rs f cs) h unsettled narrow skipped classes cs true (sym e);
+            } in
+            rw (add-one k) (testing-skips rs p o to (to - suc i) (suc i) (omega (arith, s .forth)) met (rw (add-one i) at s))
+
+-- where an entry is met there is one
+pub meets-there : (classes : List ℕ) (c : ℕ) (l : List ℕ) (i : ℕ) → true ≡ meets classes c l i → i < length l
+meets-there classes c l i = go (says-ltb i (length l))
+  where
+    go : {b : Bool} → Says (i < length l) b → true ≡ pick b (inMask (getD classes c 0) (getD l i 0)) false → i < length l
+    go (holds h) e = h
+    go (fails h) e = absurd (true≢false e)

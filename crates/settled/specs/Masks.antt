@@ -1,0 +1,42 @@
+-- Sets of columns as masks, bit c for column c, and rules as pairs of masks: where a mask has all columns of a pair's left one, it gets those of the right one.
+use Prim.Native.Nat.{ℕ, _<_}
+use mathlib.Core.Path.{_≡_}
+use mathlib.Core.Bool.{true}
+use mathlib.Core.List.{List, List·Memᴰ}
+use lib.ListN.{getD}
+use Rattle.theory.specs.Tests.{Says, bitsOf}
+use Rattle.theory.specs.Orders.{Rule, fix, Same}
+use Rattle.theory.specs.Choices.{rulesUnder}
+use Rattle.theory.specs.Settled.{Settled, alike}
+use Rattle.theory.specs.Query.{Bytes, setCount, readQuery}
+use Rattle.orders.specs.Orders.{inMask}
+
+-- A mask has room for the columns.
+abbrev pub Narrow : List ℕ → Type 0
+Narrow l = (c : ℕ) → List·Memᴰ c l → c < 16
+
+-- Every column of the one mask is in the other.
+abbrev pub Inside : ℕ → ℕ → Type 0
+Inside l m = (c : ℕ) → inMask l c ≡ true → inMask m c ≡ true
+
+-- With all left columns of a fix the mask has the right one, and with one of two equal columns the other.
+pub record Closed (rs : List Rule) (m : ℕ) : Type 0 where
+  pub fixes : (l : List ℕ) (r : ℕ) → List·Memᴰ (fix l r) rs → ((c : ℕ) → List·Memᴰ c l → inMask m c ≡ true) → inMask m r ≡ true
+  pub equals : (a b : ℕ) → Same rs a b → inMask m a ≡ true → inMask m b ≡ true
+
+-- The first n pairs of masks stand for the rules: each gives only what its left columns settle, and a mask to which none adds anything is closed under the rules.
+pub record StandFor (rs : List Rule) (left right : List ℕ) (n : ℕ) : Type 0 where
+  pub sound : (i : ℕ) → i < n → (w : List ℕ) → ((c : ℕ) → inMask (getD left i 0) c ≡ true → Settled rs w c) → (c : ℕ) → inMask (getD right i 0) c ≡ true → Settled rs w c
+  pub complete : (m : ℕ) → ((i : ℕ) → i < n → Inside (getD left i 0) m → Inside (getD right i 0) m) → Closed rs m
+
+-- The mask has exactly the columns that the columns w settle.
+abbrev pub SettledMask : List Rule → List ℕ → ℕ → Type 0
+SettledMask rs w m = (c : ℕ) → Says (Settled rs w c) (inMask m c)
+
+-- Mask c has exactly the columns that are alike to column c.
+abbrev pub ClassesOf : List Rule → List ℕ → Type 0
+ClassesOf rs classes = (c x : ℕ) → c < 16 → inMask (getD classes c 0) x ≡ alike rs c x
+
+-- The rules in force of a query's bytes under the choice with a number.
+abbrev pub rulesAt : Bytes → ℕ → List Rule
+rulesAt b x = rulesUnder (readQuery b) (bitsOf (setCount b) x)

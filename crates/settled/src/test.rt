@@ -1,0 +1,67 @@
+// The closure test. It reads the pairs and classes alone, no query, and closes a mask at the start and once for each entry that is used up but the last.
+use crate::close;
+use crate::masks;
+use orders::Order;
+ghost use mathlib.Core.Path.{_≡_};
+ghost use mathlib.Core.List.{List};
+ghost use Prim.Native.Nat.{_≤_, _<_};
+ghost use lib.ListN.{length};
+ghost use Rattle.theory.specs.Orders.{Rule};
+ghost use Rattle.theory.specs.Settled.{isHeld};
+ghost use Rattle.orders.specs.Orders.{orderOf};
+ghost use Rattle.settled.specs.Masks.{Narrow, StandFor, ClassesOf};
+ghost use Rattle.settled.specs.Parts.{Skipped, meets};
+
+// The first place from one on where the order has a column that the mask does not have; the length where there is none.
+fn unsettled(o: Order, from: usize, mask: u16) -> usize
+    requires { ⌜ Narrow (orderOf o) × (from ≤ length (orderOf o)) ⌝ }
+    ensures { λ r. ⌜ Skipped mask (orderOf o) from r ⌝ }
+{
+    let n = orders::length(o);
+    let mut i = from;
+    while i < n {
+        if !masks::has(mask, orders::column(o, i)) {
+            return i;
+        }
+        i += 1;
+    }
+    i
+}
+
+// Whether the produced order has an entry at a place, and its column is alike to c.
+fn meets(classes: &[u16], c: u8, p: Order, at: usize) -> bool
+    requires { ⌜ (length (now classes) ≡ 16) × (c < 16) × Narrow (orderOf p) ⌝ }
+    ensures { λ r. ⌜ r ≡ meets (now (classes .entry)) c (orderOf p) at ⌝ }
+{
+    if at < orders::length(p) {
+        masks::has(classes[c as usize], orders::column(p, at))
+    } else {
+        false
+    }
+}
+
+// Whether order o is held from the produced order p. An entry of o that is settled by those before it is passed over; any other uses up the first entry of what is left
+// of p that is not settled, which has to be alike.
+pub fn held(left: &[u16], right: &[u16], n: usize, classes: &[u16], p: Order, o: Order) -> bool
+    requires { ⌜ (n ≤ length (now left)) × (n ≤ length (now right)) × (length (now classes) ≡ 16) × Narrow (orderOf p) × Narrow (orderOf o) ⌝ }
+    ensures { λ r. ⌜ ((rs : List Rule) → StandFor rs (now (left .entry)) (now (right .entry)) n → ClassesOf rs (now (classes .entry)) → r ≡ isHeld rs (orderOf p) (orderOf o)) ⌝ }
+{
+    let m = orders::length(o);
+    let mut mask = close::close(left, right, n, 0);
+    let mut i = unsettled(o, 0, mask);
+    let mut j = 0;
+    while i < m {
+        let c = orders::column(o, i);
+        j = unsettled(p, j, mask);
+        if !meets(classes, c, p, j) {
+            return false;
+        }
+        if i + 1 == m {
+            return true;
+        }
+        mask = close::close(left, right, n, mask | masks::bit(c));
+        i = unsettled(o, i + 1, mask);
+        j += 1;
+    }
+    true
+}

@@ -1,0 +1,269 @@
+-- Where the closure test says no, two rows show it. It stops at an entry of the order looked for that is unsettled, where the first unsettled entry left of the produced
+-- order is not alike to it, or none is left. Two rows alike in the settled columns alone, the one higher in the entry's class and the other everywhere else, stand in the
+-- produced order, obey the rules, and do not stand in the order looked for.
+use Prim.Native.Nat.{ℕ, zero, suc, _<_}
+use native.Mathlib.Omega.{arith}
+use mathlib.Core.Path.{_≡_, refl, sym, _∙_, ap, ap₂, subst}
+use mathlib.Core.Bool.{Bool, true, false, not, true≢false}
+use mathlib.Core.Logic.{_⊎_, inl, inr, ⊎-elim}
+use mathlib.Core.List.{List, [], _∷_, _++_, map, List·Memᴰ, List·Memᴰ·head, List·Memᴰ·tail, List·Memᴰ·not-nil, List·Memᴰ·eq-of-singleton, Memᴰ·append-left, Memᴰ·append-right, Memᴰ·of-map}
+use lib.IntN.{ℤ, pos}
+use lib.ListN.{List·getD-eq-default}
+use Rattle.theory.specs.Tests.{pick, Says, holds, fails, those, upFrom}
+use Rattle.theory.specs.Orders.{Order, column, columns, Rule, fix, equal, RulesBelow}
+use Rattle.theory.specs.Rows.{Less, Row, cell, Below, Stands, ObeysAll, Counterexample}
+use Rattle.theory.specs.Settled.{Settled, among, fixed, equalled, settledColumns, settled, isEqual, alike, fromUnsettled, entryHeld, heldBehind, isHeld}
+use Rattle.theory.proofs.Reflect.{true-says, false-says, says-one, says-as, says-ltb}
+use Rattle.theory.proofs.ListLaws.{Within}
+use Rattle.theory.proofs.RowLaws.{all-cons}
+use Rattle.theory.proofs.RangeLaws.{entry-of, entry-count}
+use Rattle.theory.proofs.RowTheorem.{less-irrefl, column-skip}
+use Rattle.theory.proofs.SettledLaws.{member-those, those-member, settled-through, settled-more, says-settled}
+
+-- in column d the first row is neither below the second nor alike to it
+abbrev Above : Row → Row → ℕ → Type 0
+Above x y d = ¬ (Less (cell x d) (cell y d) ⊎ (cell x d ≡ cell y d))
+
+module _ (rs : List Rule) where
+  -- the rows are alike in each column that w settles
+  abbrev Agree : List ℕ → Row → Row → Type 0
+  Agree w x y = (d : ℕ) → Settled rs w d → cell x d ≡ cell y d
+
+  -- such rows compare along r as they do along rest, a part of it
+  record Past (w : List ℕ) (r rest : Order) : Type 0 where
+    part : Within (columns rest) (columns r)
+    skip : (x y : Row) → Agree w x y → Below x y r → Below x y rest
+
+  past-none : (w : List ℕ) (r : Order) → Past w r r
+  past-none w r = record { part = λ d m. m; skip = λ x y a b. b }
+
+  past-one : {w : List ℕ} (e : ℕ) (r : Order) → Settled rs w (column e) → Past w (e ∷ r) r
+  past-one e r t = record { part = λ d m. List·Memᴰ·tail m; skip = λ x y a b. column-skip (a (column e) t) b }
+
+  past-both : {w : List ℕ} {r s t : Order} → Past w r s → Past w s t → Past w r t
+  past-both p q = record { part = λ d m. p .part d (q .part d m); skip = λ x y a b. q .skip x y a (p .skip x y a b) }
+
+  past-more : {w v : List ℕ} {r s : Order} → Within w v → Past w r s → Past v r s
+  past-more h p = record { part = p .part; skip = λ x y a b. p .skip x y (λ d t. a d (settled-through (λ c m. among (h c m)) t)) b }
+
+  -- the first entry, where there is one, is unsettled
+  abbrev Open : List ℕ → Order → Type 0
+  Open w [] = Unit {0}
+  Open w (e ∷ r) = ¬ Settled rs w (column e)
+
+  past-front : (w : List ℕ) (r : Order) → Past w r (fromUnsettled (settledColumns rs w) r) × Open w (fromUnsettled (settledColumns rs w) r)
+  past-front w [] = (past-none w [], tt)
+  past-front w (e ∷ r) = go (says-settled rs w (column e)) (past-front w r)
+    where
+      go : {b : Bool} → Says (Settled rs w (column e)) b → Past w r (fromUnsettled (settledColumns rs w) r) × Open w (fromUnsettled (settledColumns rs w) r)
+          → Past w (e ∷ r) (elim b [ true ↦ fromUnsettled (settledColumns rs w) r | false ↦ e ∷ r ]) × Open w (elim b [ true ↦ fromUnsettled (settledColumns rs w) r | false ↦ e ∷ r ])
+      go (holds t) p = (past-both (past-one e r t) (p .0), p .1)
+      go (fails f) p = (past-none w (e ∷ r), f)
+
+  -- a column of c's class is settled where c is
+  alike-settled : {w : List ℕ} {c d : ℕ} → Settled rs w c → Settled (those isEqual rs) (c ∷ []) d → Settled rs w d
+  alike-settled {w} t s =
+      settled-through (λ b m. subst (Settled rs w) (sym (List·Memᴰ·eq-of-singleton m)) t) (settled-more (λ x m. member-those isEqual rs m .0) s)
+
+  -- the test stops at column c: rows that agree do not compare below along r where the first is above in each column that is neither settled nor of c's class
+  abbrev Stuck : List ℕ → ℕ → Order → Type 0
+  Stuck w c r = (x y : Row) → Agree w x y → ((d : ℕ) → List·Memᴰ d (columns r) → ¬ Settled rs w d → ¬ Settled (those isEqual rs) (c ∷ []) d → Above x y d) → ¬ Below x y r
+
+  past-stuck : {w : List ℕ} {c : ℕ} {r rest : Order} → Past w r rest → Stuck w c rest → Stuck w c r
+  past-stuck p s x y a h b = s x y a (λ d m. h d (p .part d m)) (p .skip x y a b)
+
+  -- why an entry with column c is not held: what follows it is not, or the test stops at it
+  data Unheld (w : List ℕ) (r : Order) (c : ℕ) (goOn : Order → Bool) : Type 0 where
+    later : (rest : Order) → goOn rest ≡ false → Past (w ++ (c ∷ [])) r rest → Unheld w r c goOn
+    stops : ¬ Settled rs w c → Stuck w c r → Unheld w r c goOn
+
+  entry-unheld : (w : List ℕ) (r : Order) (e : ℕ) (goOn : Order → Bool) → entryHeld rs (settledColumns rs w) r e goOn ≡ false → Unheld w r (column e) goOn
+  entry-unheld w r e goOn = atEntry (says-settled rs w (column e))
+    where
+      atClass : ¬ Settled rs w (column e) → {x : ℕ} {rest : Order} → Past w r (x ∷ rest) → ¬ Settled rs w (column x)
+          → {b : Bool} → Says (Settled (those isEqual rs) (column e ∷ []) (column x)) b → elim b [ true ↦ goOn rest | false ↦ false ] ≡ false → Unheld w r (column e) goOn
+      atClass f {x} {rest} p g (holds s) k =
+          later rest k
+          (past-both (past-more (λ d m. Memᴰ·append-left (column e ∷ []) m) p)
+          (past-one x rest (alike-settled (among (Memᴰ·append-right w (List·Memᴰ·head refl))) s)))
+      atClass f {x} {rest} p g (fails s) k =
+          stops f (past-stuck p (λ u v a h b. h (column x) (List·Memᴰ·head refl) g s (⊎-elim inl (λ t. inr (t .0)) b)))
+
+      atFront : ¬ Settled rs w (column e) → (front : Order) → Past w r front × Open w front
+          → elim front [ [] ↦ false | x ∷ rest ↦ elim (alike rs (column e) (column x)) [ true ↦ goOn rest | false ↦ false ] ] ≡ false → Unheld w r (column e) goOn
+      atFront f [] p k = stops f (past-stuck (p .0) (λ u v a h b. b))
+      atFront f (x ∷ rest) p k = atClass f (p .0) (p .1) (says-settled (those isEqual rs) (column e ∷ []) (column x)) k
+
+      atEntry : {b : Bool} → Says (Settled rs w (column e)) b
+          → elim b [
+            | true ↦ goOn r
+            | false ↦ elim (fromUnsettled (settledColumns rs w) r) [ [] ↦ false | x ∷ rest ↦ elim (alike rs (column e) (column x)) [ true ↦ goOn rest | false ↦ false ] ]
+          ] ≡ false → Unheld w r (column e) goOn
+      atEntry (holds t) k = later r k (past-none (w ++ (column e ∷ [])) r)
+      atEntry (fails f) k = atFront f (fromUnsettled (settledColumns rs w) r) (past-front w r) k
+
+  -- where the test stops: the columns of the entries before, and the entry's column, by which alone rows compare along o that agree before it
+  record Stop (w : List ℕ) (r o : Order) : Type 0 where
+    done : List ℕ
+    at : ℕ
+    behind : Within w done
+    unsettled : ¬ Settled rs done at
+    named : List·Memᴰ at (columns o)
+    below : (x y : Row) → Agree done x y → Less (cell x at) (cell y at) → Below x y o
+    stuck : Stuck done at r
+
+  stop : (w : List ℕ) (r o : Order) → heldBehind rs w r o ≡ false → Stop w r o
+  stop w r [] k = absurd (true≢false k)
+  stop w r (e ∷ o) k = go (λ rest. stop (w ++ (column e ∷ [])) rest o) (entry-unheld w r e (λ rest. heldBehind rs (w ++ (column e ∷ [])) rest o) k)
+    where
+      go : ((rest : Order) → heldBehind rs (w ++ (column e ∷ [])) rest o ≡ false → Stop (w ++ (column e ∷ [])) rest o)
+          → Unheld w r (column e) (λ rest. heldBehind rs (w ++ (column e ∷ [])) rest o) → Stop w r (e ∷ o)
+      go on (later rest q p) =
+          let s = on rest q in
+          record {
+            done = s .done;
+            at = s .at;
+            behind = λ d m. s .behind d (Memᴰ·append-left (column e ∷ []) m);
+            unsettled = s .unsettled;
+            named = List·Memᴰ·tail (s .named);
+            below = λ x y a l. inr (a (column e) (among (s .behind (column e) (Memᴰ·append-right w (List·Memᴰ·head refl)))), s .below x y a l);
+            stuck = past-stuck (past-more (s .behind) p) (s .stuck);
+          }
+      go on (stops f s) =
+          record { done = w; at = column e; behind = λ d m. m; unsettled = f; named = List·Memᴰ·head refl; below = λ x y a l. inl l; stuck = s }
+
+-- 0 in a settled column, elsewhere 1 where a test passes
+abbrev value : Bool → Bool → ℤ
+value s b = pick s (pos 0) (pick b (pos 1) (pos 0))
+
+value-bit : (s b : Bool) → (value s b ≡ pos 0) ⊎ (value s b ≡ pos 1)
+value-bit true b = inl refl
+value-bit false true = inr refl
+value-bit false false = inl refl
+
+-- what holds of the one and of the other holds of both
+all-pair : {A : Type 0} (P : A → Type 0) {u v : A} → P u → P v → (x : A) → List·Memᴰ x (u ∷ v ∷ []) → P x
+all-pair P p q = all-cons {P = P} p (all-cons {P = P} q (λ x m. absurd (List·Memᴰ·not-nil m)))
+
+-- two rows stand in an order where the second is not below the first
+pair-stands : (x y : Row) (o : Order) → ¬ Below y x o → Stands (x ∷ y ∷ []) o
+pair-stands x y o f zero (suc zero) l h b = f b
+pair-stands x y o f i zero l h b = let z : ⊥ = omega arith in absurd z
+pair-stands x y o f (suc i) (suc zero) l h b = let z : ⊥ = omega arith in absurd z
+pair-stands x y o f i (suc (suc j)) l h b = let z : ⊥ = omega arith in absurd z
+
+module _ (n : ℕ) (rs : List Rule) (w : List ℕ) where
+  -- the row of n columns that is 0 in each column that w settles, elsewhere 1 where the test passes
+  abbrev row : (ℕ → Bool) → Row
+  row test = map (λ d. value (settled rs w d) (test d)) (upFrom 0 n)
+
+  row-values : (test : ℕ → Bool) (v : ℤ) → List·Memᴰ v (row test) → (v ≡ pos 0) ⊎ (v ≡ pos 1)
+  row-values test v m =
+      let t = Memᴰ·of-map (λ d. value (settled rs w d) (test d)) (upFrom 0 n) m in
+      ⊎-elim (λ e. inl (sym (t .2) ∙ e)) (λ e. inr (sym (t .2) ∙ e)) (value-bit (settled rs w (t .0)) (test (t .0)))
+
+  row-cell : (test : ℕ → Bool) (d : ℕ) → d < n → cell (row test) d ≡ value (settled rs w d) (test d)
+  row-cell test d l = entry-of (λ d. value (settled rs w d) (test d)) n d (pos 0) l
+
+  -- all such rows are alike in the settled columns
+  rows-agree : (s t : ℕ → Bool) → Agree rs w (row s) (row t)
+  rows-agree s t d h = go (says-ltb d n)
+    where
+      zero-value : (test : ℕ → Bool) → value (settled rs w d) (test d) ≡ pos 0
+      zero-value test = rw (true-says (says-settled rs w d) h)
+
+      past-end : (test : ℕ → Bool) → ¬ d < n → cell (row test) d ≡ pos 0
+      past-end test f = List·getD-eq-default (row test) (pos 0) (rw (entry-count (λ c. value (settled rs w c) (test c)) 0 n) (omega arith))
+
+      go : {b : Bool} → Says (d < n) b → cell (row s) d ≡ cell (row t) d
+      go (holds l) = (row-cell s d l ∙ zero-value s) ∙ sym (row-cell t d l ∙ zero-value t)
+      go (fails f) = past-end s f ∙ sym (past-end t f)
+
+  -- an unsettled column has the test's bit
+  row-open : (test : ℕ → Bool) (d : ℕ) → d < n → ¬ Settled rs w d → cell (row test) d ≡ pick (test d) (pos 1) (pos 0)
+  row-open test d l f = rw (row-cell test d l, false-says (says-settled rs w d) f)
+
+-- the tests on columns say the same of two equal ones
+equal-settled : {qs : List Rule} (v : List ℕ) {a b : ℕ} → List·Memᴰ (equal a b) qs → settled qs v a ≡ settled qs v b
+equal-settled {qs} v {a} {b} m = says-one (says-settled qs v a) (says-as (equalled (inr m)) (equalled (inl m)) (says-settled qs v b))
+
+-- a bit and its opposite differ
+bits-differ : (b : Bool) → ¬ (pick b (pos 1) (pos 0) ≡ pick (not b) (pos 1) (pos 0))
+bits-differ true e = less-irrefl (pos 1) (subst (λ k. Less k (pos 1)) (sym e) (omega arith))
+bits-differ false e = less-irrefl (pos 1) (subst (λ k. Less k (pos 1)) e (omega arith))
+
+-- Two such rows with opposite bits are alike in the settled columns alone; so they obey the rules where the test says the same of equal columns.
+module _ (n : ℕ) (rs : List Rule) (w : List ℕ) (test : ℕ → Bool) (small : RulesBelow n rs) (same : (a b : ℕ) → List·Memᴰ (equal a b) rs → test a ≡ test b) where
+  alike-settles : (d : ℕ) → d < n → cell (row n rs w test) d ≡ cell (row n rs w (λ c. not (test c))) d → Settled rs w d
+  alike-settles d l e = go (says-settled rs w d)
+    where
+      go : {b : Bool} → Says (Settled rs w d) b → Settled rs w d
+      go (holds t) = t
+      go (fails f) = absurd (bits-differ (test d) (sym (row-open n rs w test d l f) ∙ e ∙ row-open n rs w (λ c. not (test c)) d l f))
+
+  -- each row has one value in two equal columns
+  row-equal : (bits : Bool → Bool) {a b : ℕ} → List·Memᴰ (equal a b) rs → cell (row n rs w (λ d. bits (test d))) a ≡ cell (row n rs w (λ d. bits (test d))) b
+  row-equal bits {a} {b} m =
+      row-cell n rs w (λ d. bits (test d)) a (small (equal a b) m a (List·Memᴰ·head refl))
+      ∙ ap₂ value (equal-settled w m) (ap bits (same a b m))
+      ∙ sym (row-cell n rs w (λ d. bits (test d)) b (small (equal a b) m b (List·Memᴰ·tail (List·Memᴰ·head refl))))
+
+  opposite-obey : ObeysAll rs (row n rs w test ∷ row n rs w (λ d. not (test d)) ∷ [])
+  opposite-obey (equal a b) m = all-pair (λ x. cell x a ≡ cell x b) (row-equal (λ t. t) m) (row-equal not m)
+  opposite-obey (fix l r) m = λ x y i j.
+      all-pair (λ u. Fixed u y) (all-pair (Fixed (row n rs w test)) (λ h. refl) (λ h. alone h) y j)
+      (all-pair (Fixed (row n rs w (λ d. not (test d)))) (λ h. sym (alone (λ c k. sym (h c k)))) (λ h. refl) y j) x i
+    where
+      Fixed : Row → Row → Type 0
+      Fixed x y = ((c : ℕ) → List·Memᴰ c l → cell x c ≡ cell y c) → cell x r ≡ cell y r
+
+      alone : Fixed (row n rs w test) (row n rs w (λ d. not (test d)))
+      alone h = rows-agree n rs w test (λ d. not (test d)) r (fixed m (λ c k. alike-settles c (small (fix l r) m c (List·Memᴰ·tail k)) (h c k)))
+
+-- where the test stops, the rows with the bits of the entry's class and their opposites
+stop-pair : (n : ℕ) (rs : List Rule) (p o : Order) → ((c : ℕ) → List·Memᴰ c (columns p) → c < n) → ((c : ℕ) → List·Memᴰ c (columns o) → c < n)
+    → RulesBelow n rs → Stop rs [] p o → Counterexample n rs p o
+stop-pair n rs p o pn on small s =
+    record {
+      one = one;
+      two = two;
+      one-width = entry-count (λ d. value (settled rs (s .done) d) (class d)) 0 n;
+      two-width = entry-count (λ d. value (settled rs (s .done) d) (not (class d))) 0 n;
+      one-values = row-values n rs (s .done) class;
+      two-values = row-values n rs (s .done) (λ d. not (class d));
+      stands = pair-stands one two p (s .stuck two one agree above);
+      obeys = opposite-obey n rs (s .done) class small (λ a b m. equal-settled (s .at ∷ []) (those-member isEqual rs m refl));
+      breaks = λ st. st 0 1 (omega arith) (omega arith) (s .below two one agree lower);
+    }
+  where
+    class : ℕ → Bool
+    class d = alike rs (s .at) d
+
+    one : Row
+    one = row n rs (s .done) class
+
+    two : Row
+    two = row n rs (s .done) (λ d. not (class d))
+
+    agree : Agree rs (s .done) two one
+    agree = rows-agree n rs (s .done) (λ d. not (class d)) class
+
+    -- the entry's column: the first row has 1, the second 0
+    lower : Less (cell two (s .at)) (cell one (s .at))
+    lower =
+        let l = on (s .at) (s .named) in
+        let t = true-says (says-settled (those isEqual rs) (s .at ∷ []) (s .at)) (among (List·Memᴰ·head refl)) in
+        rw (row-open n rs (s .done) (λ d. not (class d)) (s .at) l (s .unsettled), row-open n rs (s .done) class (s .at) l (s .unsettled), t) (omega arith)
+
+    -- a column neither settled nor of its class: the first row has 0, the second 1
+    above : (d : ℕ) → List·Memᴰ d (columns p) → ¬ Settled rs (s .done) d → ¬ Settled (those isEqual rs) (s .at ∷ []) d → Above two one d
+    above d m f g =
+        let t = false-says (says-settled (those isEqual rs) (s .at ∷ []) d) g in
+        rw (row-open n rs (s .done) (λ c. not (class c)) d (pn d m) f, row-open n rs (s .done) class d (pn d m) f, t)
+        (λ h. ⊎-elim (λ l. let z : ⊥ = omega arith in absurd z) (bits-differ true) h)
+
+-- Where the closure test says no, two rows of 0 and 1 show it.
+pub fails-pair : (n : ℕ) (rs : List Rule) (p o : Order) → ((c : ℕ) → List·Memᴰ c (columns p) → c < n) → ((c : ℕ) → List·Memᴰ c (columns o) → c < n)
+    → RulesBelow n rs → isHeld rs p o ≡ false → Counterexample n rs p o
+unfolding isHeld
+fails-pair n rs p o pn on small k = stop-pair n rs p o pn on small (stop rs [] p o k)

@@ -1,0 +1,29 @@
+-- Three things are one, under any rules: an order is derived through orderings of any length, it is true of all rows that stand in the produced order and obey the rules, and
+-- the closure test says so. Where the test says no, two rows show it. Sound and complete, in one theorem.
+use Prim.Native.Nat.{ℕ}
+use mathlib.Core.Path.{_≡_, refl}
+use mathlib.Core.Bool.{Bool, true, false}
+use mathlib.Core.List.{List}
+use Rattle.theory.specs.Tests.{holds, fails}
+use Rattle.theory.specs.Orders.{Order, columns, Rule, Columns, RulesBelow}
+use Rattle.theory.specs.Rows.{Counterexample, HoldsOfRows}
+use Rattle.theory.specs.Settled.{isHeld, Exact}
+use Rattle.theory.proofs.RowTheorem.{row-theorem}
+use Rattle.theory.proofs.CounterexampleLaws.{fails-pair}
+use Rattle.theory.proofs.DerivedLaws.{passes-derived}
+
+-- what is true of all rows is true of two
+not-shown : {n : ℕ} {rs : List Rule} {p o : Order} → HoldsOfRows rs p o → ¬ Counterexample n rs p o
+not-shown h c = c .breaks (h _ (c .stands) (c .obeys))
+
+pub held-exactly : (n : ℕ) (rs : List Rule) (p o : Order) → Columns n (columns p) → Columns n (columns o) → RulesBelow n rs → Exact n rs p o (isHeld rs p o)
+held-exactly n rs p o cp co below = go (isHeld rs p o) refl
+  where
+    go : (b : Bool) → isHeld rs p o ≡ b → Exact n rs p o b
+    go true e =
+        let d = passes-derived rs p o (cp .distinct) (co .distinct) e in
+        let r = row-theorem rs p o d in
+        record { derived = holds d; rows = holds r; shown = fails (not-shown r) }
+    go false e =
+        let c = fails-pair n rs p o (cp .below) (co .below) below e in
+        record { derived = fails (λ d. not-shown (row-theorem rs p o d) c); rows = fails (λ r. not-shown r c); shown = holds c }
