@@ -10,5 +10,8 @@ pub const SUCCESSORS_PART: usize = 4354;
 
 pub const STARTS_PART: usize = 5378;
 
+// For each pair a byte: the sets that change what it answers when they are taken; 2,048 at most.
+pub const OPEN_PART: usize = 5386;
+
 // Behind a build, in the first bytes: the pairs of states that are reached together, a bit for each of 128 times 128.
 pub const PAIRS_LENGTH: usize = 2048;

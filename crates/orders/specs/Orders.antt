@@ -1,9 +1,7 @@
 -- What an order and a dependency by value stand for, in the terms of the theory.
-use Prim.Native.Nat.{ℕ, _≤_, _/_, _%_, _^_}
+use Prim.Native.Nat.{ℕ, _≤_}
 use mathlib.Core.Path.{_≡_}
-use mathlib.Core.Bool.{Bool}
 use mathlib.Core.List.{List, [], _∷_}
-use lib.Dec.{eqb}
 use lib.ListN.{take, getD}
 use Rattle.theory.specs.Orders as theory
 use Rattle.orders.specs.declared.Order.{Order}
@@ -19,10 +17,6 @@ orderOf o = take (o .len) (o .columns)
 pub record OrderIs (o : Order) (l : List ℕ) : Type 0 where
   pub order : orderOf o ≡ l
   pub short : o .len ≤ 4
-
--- Column c is in the set of columns that is held as the bits of m.
-abbrev pub inMask : ℕ → ℕ → Bool
-inMask m c = eqb (m / 2 ^ c % 2) 1
 
 -- The *fix* or *equal* that a rule by value stands for. A fix has its left columns first, then the right one.
 abbrev pub ruleIs : Rule → theory.Rule

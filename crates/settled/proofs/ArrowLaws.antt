@@ -9,7 +9,7 @@ use mathlib.Core.List.{List, [], _∷_, _++_, map, flatten, append-nil, append-a
 use lib.Dec.{eqb}
 use lib.ListN.{length, getD, set, length-append, length-set, List·getD-append}
 use lib.Seq.{getD-at, getD-set-same, getD-set-other}
-use Rattle.theory.specs.Tests.{pick, Says, holds, fails, those, upFrom, bitsOf}
+use Rattle.theory.specs.Tests.{pick, Says, holds, fails, those, upFrom, bitsOf, inMask, Inside}
 use Rattle.theory.specs.Orders.{Rule, fix, equal, columnsOf, rulesIn}
 use Rattle.theory.specs.Choices.{inForce}
 use Rattle.theory.specs.Settled.{Settled, fixed, equalled, isEqual}
@@ -19,8 +19,7 @@ use Rattle.theory.proofs.ListLaws.{member-getD, getD-member, member-flatten-map
 use Rattle.theory.proofs.RowLaws.{all-cons}
 use Rattle.theory.proofs.ChoiceNumbers.{bits-entry}
 use Rattle.theory.proofs.PassedLaws.{Passed}
-use Rattle.orders.specs.Orders.{inMask}
-use Rattle.settled.specs.Masks.{Narrow, Inside, Closed, StandFor, rulesAt}
+use Rattle.settled.specs.Masks.{Narrow, Closed, StandFor, rulesAt}
 use Rattle.settled.specs.Parts.{MaskOf, Sound, Arrow, arrow, arrows, arrowsAt, PairIs, Written, Adding}
 
 -- no pair, and one more

@@ -9,15 +9,15 @@ use mathlib.Core.List.{List, [], _∷_, List·Memᴰ}
 use lib.Bits.{bitOr}
 use lib.ListN.{length, getD, set}
 use lib.Seq.{getD-set-same, getD-set-other}
-use Rattle.theory.specs.Tests.{pick, Says, holds, fails, those}
+use Rattle.theory.specs.Tests.{pick, Says, holds, fails, those, inMask, Inside}
 use Rattle.theory.specs.Orders.{Rule}
 use Rattle.theory.specs.Settled.{Settled, among, fixed, equalled, isEqual}
 use Rattle.theory.proofs.Reflect.{says-eqb, says-true, true-says, says-one}
 use Rattle.theory.proofs.SettledLaws.{says-settled}
-use Rattle.orders.specs.Orders.{inMask}
-use Rattle.settled.specs.Masks.{Inside, Closed, StandFor, SettledMask, ClassesOf}
+use Rattle.theory.proofs.BitLaws.{or-keeps, or-only, or-more, or-inside, inside-or}
+use Rattle.settled.specs.Masks.{Closed, StandFor, SettledMask, ClassesOf}
 use Rattle.settled.specs.Parts.{used, pass, Sound, Closes}
-use Rattle.settled.proofs.MaskLaws.{says-both, or-keeps, or-only, or-more, or-inside, inside-or, mask-one}
+use Rattle.settled.proofs.MaskLaws.{says-both, mask-one}
 
 -- one pair: it adds no more than its right columns, and these only to a mask that has the left ones
 module _ (l r m : ℕ) where

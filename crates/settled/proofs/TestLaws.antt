@@ -10,13 +10,12 @@ use lib.Bits.{bitOr}
 use lib.Dec.{eqb}
 use lib.ListN.{length, take, drop, getD, drop-of-length-le}
 use lib.Seq.{take-suc, drop-cons}
-use Rattle.theory.specs.Tests.{pick, Says, holds, fails, member}
+use Rattle.theory.specs.Tests.{pick, Says, holds, fails, member, inMask}
 use Rattle.theory.specs.Orders.{Order, Rule, column, columns}
 use Rattle.theory.specs.Settled.{Settled, among, settledColumns, alike, fromUnsettled, entryHeld, heldBehind, isHeld}
 use Rattle.theory.proofs.Reflect.{says-true, true-says, says-one, says-ltb}
 use Rattle.theory.proofs.BitLaws.{raised-has, raised-keeps, raised-only}
 use Rattle.theory.proofs.SettledLaws.{settled-through, says-settled}
-use Rattle.orders.specs.Orders.{inMask}
 use Rattle.settled.specs.Masks.{StandFor, SettledMask, ClassesOf}
 use Rattle.settled.specs.Parts.{Skipped, meets, Closes}
 use Rattle.settled.proofs.MaskLaws.{says-both, mask-none}

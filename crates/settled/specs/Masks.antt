@@ -4,20 +4,15 @@ use mathlib.Core.Path.{_≡_}
 use mathlib.Core.Bool.{true}
 use mathlib.Core.List.{List, List·Memᴰ}
 use lib.ListN.{getD}
-use Rattle.theory.specs.Tests.{Says, bitsOf}
+use Rattle.theory.specs.Tests.{Says, bitsOf, inMask, Inside}
 use Rattle.theory.specs.Orders.{Rule, fix, Same}
 use Rattle.theory.specs.Choices.{rulesUnder}
 use Rattle.theory.specs.Settled.{Settled, alike}
 use Rattle.theory.specs.Query.{Bytes, setCount, readQuery}
-use Rattle.orders.specs.Orders.{inMask}
 
 -- A mask has room for the columns.
 abbrev pub Narrow : List ℕ → Type 0
 Narrow l = (c : ℕ) → List·Memᴰ c l → c < 16
-
--- Every column of the one mask is in the other.
-abbrev pub Inside : ℕ → ℕ → Type 0
-Inside l m = (c : ℕ) → inMask l c ≡ true → inMask m c ≡ true
 
 -- With all left columns of a fix the mask has the right one, and with one of two equal columns the other.
 pub record Closed (rs : List Rule) (m : ℕ) : Type 0 where

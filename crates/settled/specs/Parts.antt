@@ -6,11 +6,10 @@ use mathlib.Core.List.{List, [], _∷_, _++_, map, flatten, List·Memᴰ}
 use lib.Bits.{bitOr}
 use lib.Dec.{eqb, ltb}
 use lib.ListN.{length, getD}
-use Rattle.theory.specs.Tests.{pick, Says}
+use Rattle.theory.specs.Tests.{pick, Says, inMask}
 use Rattle.theory.specs.Orders.{Rule, fix, equal}
 use Rattle.theory.specs.Settled.{Settled}
 use Rattle.theory.specs.Query.{Bytes, orderCount, dependencyAt}
-use Rattle.orders.specs.Orders.{inMask}
 use Rattle.settled.specs.Masks.{StandFor, SettledMask}
 
 -- The mask has exactly the columns of the list.

@@ -2,7 +2,8 @@
 use orders::Order;
 ghost use mathlib.Core.Path.{_≡_};
 ghost use Prim.Native.Nat.{_<_, _^_};
-ghost use Rattle.orders.specs.Orders.{inMask, orderOf};
+ghost use Rattle.theory.specs.Tests.{inMask};
+ghost use Rattle.orders.specs.Orders.{orderOf};
 ghost use Rattle.settled.specs.Masks.{Narrow};
 ghost use Rattle.settled.specs.Parts.{MaskOf};
 

@@ -51,6 +51,7 @@ module _ (z : Sizes) (words : Bytes) where
         let visit = walk-more sameTree (λ y. map (takeTree y) (upFrom 0 (z .sets))) maxStates (maxStates - i) rows i x (omega (arith, long)) (omega (arith, long)) in
         record {
           pairs = v .pairs;
+          wholes = v .wholes;
           first = v .first;
           ahead = v .ahead ∙ ap (λ f. walkOn z f rows i) fuel ∙ visit
               ∙ ap (λ y. walkOn z (maxStates - i) (addAll sameTree rows (map (takeTree y) (upFrom 0 (z .sets)))) (suc i)) (rows-at bits (z .sets) work count i x h ∙ e)
@@ -65,7 +66,7 @@ module _ (z : Sizes) (words : Bytes) where
         let x = stateOf bits (z .sets) words p m in
         let e : rowState bits (z .sets) work i ≡ x = ap (λ w. stateOf bits (z .sets) w (byteAt work (rowPlace i)) (byteAt work (rowPlace i + 1))) (v .first) ∙ ap₂ (stateOf bits (z .sets) words) (sym order) (sym choice) in
         record {
-          order = omega (arith, v .pairs .orders i h);
+          order = omega (arith, v .wholes .own i h);
           choice = omega (arith, v .pairs .choices i h);
           within = h;
           row = omega (arith, long, prefix-length rows begun-rows);
@@ -91,6 +92,7 @@ module _ (z : Sizes) (words : Bytes) where
           within = omega arith;
           fits = λ f. record {
             pairs = v .pairs;
+            wholes = v .wholes;
             first = v .first;
             ahead = rw add-one (rw (none, fuel) at (v .ahead));
             starts = v .starts;
@@ -110,7 +112,7 @@ module _ (z : Sizes) (words : Bytes) where
 
     -- it takes set s: the pair with that set in force too is numbered
     module _ (h : s < z .sets) {after : Bytes} {r number known : ℕ} (d : r ≡ bitOr m (2 ^ s))
-        (j : Numbering bits (z .sets) work after (stateOf bits (z .sets) (take heldPart work) p r) count number known) where
+        (j : Numbering (z .produced) bits (z .sets) work after (stateOf bits (z .sets) (take heldPart work) p r) count number known) where
       e : stateOf bits (z .sets) (take heldPart work) p r ≡ takeTree x s
       e = ap₂ (λ w k. stateOf bits (z .sets) w p k) (t .visiting .first) d ∙ state-next bits (z .sets) words p m s h
 

@@ -14,7 +14,7 @@ use Rattle.theory.specs.Closure.{add, addAll}
 use Rattle.theory.specs.Machine.{Sizes, numberedWithin}
 use Rattle.theory.specs.AnswerTree.{AnswerTree, takeTree, sameTree}
 use Rattle.theory.specs.Query.{Bytes, byteAt}
-use Rattle.theory.specs.Scratch.{heldPart, successorsPart, startsPart, workLength}
+use Rattle.theory.specs.Scratch.{heldPart, successorsPart, startsPart, openPart, workLength}
 use Rattle.theory.specs.Table.{walkedTable}
 use Rattle.theory.proofs.ListLaws.{prefix-trans, prefix-length}
 use Rattle.theory.proofs.PositionLaws.{position-grows}
@@ -22,9 +22,9 @@ use Rattle.theory.proofs.ClosureLaws.{addAll-keeps, addAll-has, walk-keeps}
 use Rattle.theory.proofs.WalkLaws.{walk-end}
 use Rattle.theory.proofs.MachineTable as table
 use Rattle.theory.proofs.AnswerLaws.{decides-tree}
-use Rattle.table_rows.specs.Walk.{rowPlace, rowStates, Numbering, machineOf, statesOf, tableIn, walkOn, Walking, Starting, Visited}
+use Rattle.table_rows.specs.Walk.{rowPlace, rowStates, Opened, Numbering, machineOf, statesOf, tableIn, walkOn, Walking, Starting, Visited}
 use Rattle.table_rows.proofs.FindLaws.{rows-count}
-use Rattle.table_rows.proofs.NumberLaws.{rows-kept, pairs-kept}
+use Rattle.table_rows.proofs.NumberLaws.{rows-kept, pairs-kept, wholes-kept}
 
 -- of what f gives from number s on, that at s comes first
 rest-more : {A : Type 0} (f : ℕ → A) (s n : ℕ) → s < n → map f (upFrom s (n - s)) ≡ f s ∷ map f (upFrom (s + 1) (n - (s + 1)))
@@ -50,7 +50,7 @@ module _ (z : Sizes) (words : Bytes) where
 
   -- The next state of those that are still to be added is numbered.
   module _ (f : ℕ → AnswerTree) (s n : ℕ) {work after : Bytes} {count fuel next begun taken number known : ℕ} {x : AnswerTree}
-      (w : Walking z words work count (map f (upFrom s (n - s))) fuel next begun taken) (h : s < n) (e : x ≡ f s) (j : Numbering bits (z .sets) work after x count number known) where
+      (w : Walking z words work count (map f (upFrom s (n - s))) fuel next begun taken) (h : s < n) (e : x ≡ f s) (j : Numbering (z .produced) bits (z .sets) work after x count number known) where
     abbrev grown : List AnswerTree
     grown = add sameTree (rowStates bits (z .sets) work count) x
 
@@ -80,6 +80,7 @@ module _ (z : Sizes) (words : Bytes) where
     joined few =
         record {
           pairs = j .pairs few;
+          wholes = j .wholes few;
           first = j .words ∙ w .first;
           ahead = on ∙ ap (λ l. walkOn z fuel (addAll sameTree l rest) next) (sym (j .states few));
           starts = λ p l. j .behind (startsPart + p) (omega arith) ∙ w .starts p l;
@@ -90,14 +91,15 @@ module _ (z : Sizes) (words : Bytes) where
   module _ {work : Bytes} {count fuel next begun taken : ℕ} {rest : List AnswerTree} (w : Walking z words work count rest fuel next begun taken)
       (long : workLength ≤ length work) (v : ℕ) where
     -- a byte behind the rows changes no row
-    stored : (k b t : ℕ) → successorsPart ≤ k → ((p : ℕ) → p < b → byteAt (set work k v) (startsPart + p) ≡ getD (tableIn z words .starts) p 0) →
+    stored : (k b t : ℕ) → successorsPart ≤ k → k < openPart → ((p : ℕ) → p < b → byteAt (set work k v) (startsPart + p) ≡ getD (tableIn z words .starts) p 0) →
         ((j : ℕ) → j < t → byteAt (set work k v) (successorsPart + j) ≡ getD (flatten (tableIn z words .successors)) j 0) → Walking z words (set work k v) count rest fuel next b t
-    stored k b t h starts successors =
+    stored k b t h l starts successors =
         let few = w .pairs .few in
         let front : take heldPart (set work k v) ≡ take heldPart work = take-set-le heldPart work k v (omega arith) in
         let kept : (i : ℕ) → i < rowPlace count → byteAt (set work k v) i ≡ byteAt work i = λ i l. getD-set-other work k i v 0 (omega arith) in
         record {
           pairs = pairs-kept (z .sets) work (set work k v) count kept (w .pairs);
+          wholes = wholes-kept (z .sets) work (set work k v) count kept (z .produced) bits front (λ i d. getD-set-other work k i v 0 (omega arith)) (w .wholes);
           first = front ∙ w .first;
           ahead = w .ahead ∙ ap (λ l. walkOn z fuel (addAll sameTree l rest) next) (sym (rows-kept (z .sets) work (set work k v) count kept bits front));
           starts = starts;
@@ -109,7 +111,7 @@ module _ (z : Sizes) (words : Bytes) where
     unfolding walkedTable
     stored-start h few none e =
         let k = startsPart + begun in
-        stored k (begun + 1) taken (omega arith)
+        stored k (begun + 1) taken (omega arith) (omega arith)
         (below-more _ begun (λ p l. getD-set-other work k (startsPart + p) v 0 (omega arith) ∙ w .starts p l)
         (getD-set-same work k v 0 (omega arith) ∙ e ∙ sym (table.start-number (machineOf z words) z all begun h)))
         (λ j l. absurd (omega arith))
@@ -118,7 +120,7 @@ module _ (z : Sizes) (words : Bytes) where
         Walking z words (set work (successorsPart + taken) v) count rest fuel next begun t
     stored-successor h e t d =
         let k = successorsPart + taken in
-        stored k begun t (omega arith) (λ p l. getD-set-other work k (startsPart + p) v 0 (omega arith) ∙ w .starts p l)
+        stored k begun t (omega arith) (omega arith) (λ p l. getD-set-other work k (startsPart + p) v 0 (omega arith) ∙ w .starts p l)
         (λ j l.
         below-more (λ j. byteAt (set work k v) (successorsPart + j) ≡ getD (flatten (tableIn z words .successors)) j 0) taken
         (λ j l. getD-set-other work k (successorsPart + j) v 0 (omega arith) ∙ w .successors j l) (getD-set-same work k v 0 (omega arith) ∙ e) j (omega arith))
@@ -130,11 +132,12 @@ module _ (z : Sizes) (words : Bytes) where
       v .ahead ∙ walk-end sameTree (λ x. map (takeTree x) (upFrom 0 (z .sets))) maxStates (suc maxStates - count) rows count (omega (arith, rows-count bits (z .sets) work count))
 
 -- No row is numbered yet; and all starts are, so that the walk begins.
-pub starting-none : (z : Sizes) (work : Bytes) → Starting z (take heldPart work) work 0 0
+pub starting-none : (z : Sizes) (work : Bytes) → Opened (z .produced) (z .produced + z .tested) (z .sets) (take heldPart work) work → Starting z (take heldPart work) work 0 0
 unfolding numberedWithin
-starting-none z work =
+starting-none z work opened =
     record {
       pairs = record { few = omega arith; orders = λ i h. absurd (omega arith); choices = λ i h. absurd (omega arith) };
+      wholes = record { own = λ i h. absurd (omega arith); whole = λ i h. absurd (omega arith); opened = opened };
       first = refl;
       ahead = ap (λ n. walkOn z (suc maxStates) (addAll sameTree [] (map (machineOf z (take heldPart work) .start) (upFrom 0 n))) 0) (sym (sub-zero (z .produced)));
       starts = below-none _;
@@ -146,6 +149,7 @@ starting-all z words {work} {count} {p} e w =
     let none : z .produced - p ≡ 0 = omega arith in
     record {
       pairs = w .pairs;
+      wholes = w .wholes;
       first = w .first;
       ahead = rw none at (w .ahead);
       starts = λ q h. w .starts q (omega arith);

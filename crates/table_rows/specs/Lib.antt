@@ -1,3 +1,4 @@
 -- What the functions of this crate promise, beside the theory.
 pub mod Rows
 pub mod Walk
+pub mod Open

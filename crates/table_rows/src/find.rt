@@ -6,8 +6,8 @@ ghost use Rattle.theory.specs.Tests.{position};
 ghost use Rattle.theory.specs.Limits.{maxProduced, maxTested, maxSets};
 ghost use Rattle.theory.specs.AnswerTree.{sameTree};
 ghost use Rattle.theory.specs.Query.{byteAt};
-ghost use Rattle.theory.specs.Scratch.{heldPart, successorsPart};
-ghost use Rattle.table_rows.specs.Walk.{cutWord, stateOf, rowStates, Pairs};
+ghost use Rattle.theory.specs.Scratch.{heldPart, workLength};
+ghost use Rattle.table_rows.specs.Walk.{cutWord, stateOf, rowStates, Whole, Pairs, Wholes};
 use numbers::limits::HELD_WIDTH;
 use numbers::scratch::HELD_PART;
 
@@ -35,24 +35,37 @@ pub fn byte(work: &[u8], at: usize) -> usize
     work[at] as usize
 }
 
-// The number of the row that a pair gives, the one that holds the same under every choice of further sets; the count where there is none.
-pub fn find_row(work: &[u8], bits: usize, sets: usize, count: usize, p: usize, m: usize) -> usize
-    requires { ⌜ Pairs sets (now work) count × (bits ≤ maxProduced + maxTested) × (sets ≤ maxSets) × (p < maxProduced) × (m < 2 ^ sets) × (successorsPart ≤ length (now work)) ⌝ }
-    ensures { λ r. ⌜ r ≡ position sameTree (stateOf bits sets (take heldPart (now (work .entry))) p m) (rowStates bits sets (now (work .entry)) count) ⌝ }
+// The number of the row that produced order p gives under a whole choice m, the one that holds the same under every choice of further sets; the count where there is none. A row
+// with another whole choice is another; with the same one it is the same where the words under all larger choices are.
+pub fn find_row(
+    work: &[u8],
+    produced: usize,
+    tested: usize,
+    sets: usize,
+    count: usize,
+    p: usize,
+    m: usize,
+) -> usize
+    requires { ⌜ Pairs sets (now work) count × Wholes produced (produced + tested) sets (now work) count × (produced ≤ maxProduced) × (tested ≤ maxTested) × (sets ≤ maxSets) × (p < produced) × (m < 2 ^ sets) × Whole sets (now work) p m × (workLength ≤ length (now work)) ⌝ }
+    ensures { λ r. ⌜ r ≡ position sameTree (stateOf (produced + tested) sets (take heldPart (now (work .entry))) p m) (rowStates (produced + tested) sets (now (work .entry)) count) ⌝ }
 {
+    let bits = produced + tested;
     let choices = pair_words::choices(sets);
     let mut i = 0;
     'row: while i < count {
         let at = HELD_PART + i * HELD_WIDTH;
+        if byte(work, at + 1) != m {
+            i += 1;
+            continue 'row;
+        }
         let q = byte(work, at);
-        let k = byte(work, at + 1);
-        let mut x = 0;
+        let mut x = m;
         while x < choices {
-            if cut_word(work, bits, sets, p, m | x) != cut_word(work, bits, sets, q, k | x) {
+            if cut_word(work, bits, sets, p, x) != cut_word(work, bits, sets, q, x) {
                 i += 1;
                 continue 'row;
             }
-            x += 1;
+            x = (x + 1) | m;
         }
         return i;
     }

@@ -4,6 +4,7 @@
 mod find;
 mod held;
 mod numbered;
+mod open_sets;
 mod walk;
 
 ghost use mathlib.Core.Path.{_≡_};
@@ -19,6 +20,7 @@ pub fn number(work: &mut [u8], produced: usize, tested: usize, sets: usize) -> u
     requires { ⌜ (1 ≤ produced) × (produced ≤ maxProduced) × (tested ≤ maxTested) × (sets ≤ maxSets) × (workLength ≤ length (now work)) ⌝ }
     ensures { λ r. ⌜ RowsFound produced tested sets (now (work .entry)) (now (work .exit)) r × (length (now (work .exit)) ≡ length (now (work .entry))) ⌝ }
 {
+    open_sets::open_pairs(work, produced, produced + tested, sets);
     let begun = walk::number_starts(work, produced, tested, sets);
     let count = walk::walk_rows(work, produced, tested, sets, begun);
     if MAX_STATES < count {

@@ -1,13 +1,13 @@
 // The numbering walk: the starts first; then each row, in number order, takes each set, in number order, and each new row gets the next number.
 use crate::find;
 use crate::numbered;
+use crate::open_sets;
 ghost use mathlib.Core.Path.{_≡_};
-ghost use Prim.Native.Nat.{_+_, _*_, _^_, _≤_, _<_};
-ghost use lib.Bits.{bitOr};
+ghost use Prim.Native.Nat.{_+_, _*_, _≤_, _<_};
 ghost use lib.ListN.{length, take};
 ghost use Rattle.theory.specs.Limits.{maxProduced, maxTested, maxSets, maxStates};
 ghost use Rattle.theory.specs.Scratch.{heldPart, successorsPart, startsPart, workLength};
-ghost use Rattle.table_rows.specs.Walk.{Visited, Taking, Walked, sizesOf};
+ghost use Rattle.table_rows.specs.Walk.{Opened, Visited, Taking, Walked, sizesOf};
 use numbers::limits::HELD_WIDTH;
 use numbers::limits::MAX_STATES;
 use numbers::scratch::HELD_PART;
@@ -16,27 +16,19 @@ use numbers::scratch::SUCCESSORS_PART;
 
 // Each produced order with no set in force is numbered, and its number written to the starts. How many rows there are.
 pub fn number_starts(work: &mut [u8], produced: usize, tested: usize, sets: usize) -> usize
-    requires { ⌜ (produced ≤ maxProduced) × (tested ≤ maxTested) × (sets ≤ maxSets) × (workLength ≤ length (now work)) ⌝ }
+    requires { ⌜ Opened produced (produced + tested) sets (take heldPart (now work)) (now work) × (produced ≤ maxProduced) × (tested ≤ maxTested) × (sets ≤ maxSets) × (workLength ≤ length (now work)) ⌝ }
     ensures { λ r. ⌜ Visited (sizesOf produced tested sets) (take heldPart (now (work .entry))) (now (work .exit)) r 0 × (length (now (work .exit)) ≡ length (now (work .entry))) ⌝ }
 {
     let mut known = 0;
     let mut p = 0;
     while p < produced {
-        let numbered = numbered::number_row(work, produced + tested, sets, known, p, 0);
+        let numbered = numbered::number_row(work, produced, tested, sets, known, p, 0);
         known = numbered.count;
         let number = numbered.number;
         work[STARTS_PART + p] = number as u8;
         p += 1;
     }
     known
-}
-
-// The choice m with set s in force too.
-fn with_set(m: usize, s: usize, sets: usize) -> usize
-    requires { ⌜ (m < 2 ^ sets) × (s < sets) × (sets ≤ maxSets) ⌝ }
-    ensures { λ r. ⌜ (r ≡ bitOr m (2 ^ s)) × (r < 2 ^ sets) ⌝ }
-{
-    m | (1usize << s)
 }
 
 // Where the successor of row i for set s lies.
@@ -66,11 +58,12 @@ fn take_sets(
     while s < sets {
         let numbered = numbered::number_row(
             work,
-            produced + tested,
+            produced,
+            tested,
             sets,
             known,
             p,
-            with_set(m, s, sets),
+            open_sets::with_set(m, s, sets),
         );
         known = numbered.count;
         if MAX_STATES < known {

@@ -29,8 +29,18 @@ successorsPart = 4354
 abbrev pub startsPart : ℕ
 startsPart = 5378
 
+-- For each pair a byte, in the sequence of the words: the sets that change what the pair answers when they are taken, bit s for set s; 2,048 at most.
+abbrev pub openPart : ℕ
+openPart = 5386
+
+abbrev pub openAt : ℕ → ℕ → ℕ → ℕ
+openAt sets p x = openPart + (p * 2 ^ sets + x)
+
+abbrev pub openIn : ℕ → Bytes → ℕ → ℕ → ℕ
+openIn sets work p x = byteAt work (openAt sets p x)
+
 abbrev pub workLength : ℕ
-workLength = 5386
+workLength = 7434
 
 -- Behind a build, in the first bytes: the pairs of states that are reached together, a bit for each of 128 times 128.
 abbrev pub pairsLength : ℕ

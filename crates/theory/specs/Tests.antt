@@ -1,5 +1,5 @@
 -- Tests that compute, and small functions on lists that the definitions share. No term of document 01 is defined here.
-use Prim.Native.Nat.{ℕ, zero, suc, _/_, _%_, max}
+use Prim.Native.Nat.{ℕ, zero, suc, _/_, _%_, _^_, max}
 use mathlib.Core.Path.{_≡_}
 use mathlib.Core.Bool.{Bool, true, false, _&&_}
 use mathlib.Core.List.{List, [], _∷_, List·Memᴰ}
@@ -71,3 +71,11 @@ largest (n ∷ ns) = max n (largest ns)
 abbrev pub bitsOf : ℕ → ℕ → List Bool
 bitsOf zero x = []
 bitsOf (suc n) x = eqb (x % 2) 1 ∷ bitsOf n (x / 2)
+
+-- c is in the set of numbers that is held as the bits of m
+abbrev pub inMask : ℕ → ℕ → Bool
+inMask m c = eqb (m / 2 ^ c % 2) 1
+
+-- every number in the one set is in the other
+abbrev pub Inside : ℕ → ℕ → Type 0
+Inside l m = (c : ℕ) → inMask l c ≡ true → inMask m c ≡ true

@@ -7,7 +7,8 @@ use lib.Bits.{bitOr}
 use lib.ListN.{length-take, length, getD}
 use borrow.Author.Needs.{needs}
 use borrow.Author.Tests.{not-true, not-false}
-use Rattle.orders.specs.Orders.{inMask, orderOf}
+use Rattle.theory.specs.Tests.{inMask}
+use Rattle.orders.specs.Orders.{orderOf}
 use Rattle.settled.specs.Parts.{meets, Closes}
 use Rattle.settled.proofs.MaskLaws.{narrow-at}
 use Rattle.settled.proofs.TestLaws.{Midway, midway-begins, midway-next, midway-fails, midway-last, midway-end, meets-there}

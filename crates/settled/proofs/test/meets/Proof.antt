@@ -4,8 +4,9 @@ use mathlib.Core.Path.{refl, _∙_, ap}
 use lib.ListN.{length, getD}
 use borrow.Author.Tests.{lt-ltb, le-ltb}
 use borrow.Author.Needs.{needs}
+use Rattle.theory.specs.Tests.{inMask}
 use Rattle.theory.proofs.Picks.{pick-yes, pick-no}
-use Rattle.orders.specs.Orders.{inMask, orderOf}
+use Rattle.orders.specs.Orders.{orderOf}
 use Rattle.settled.proofs.MaskLaws.{narrow-at}
 use Rattle.settled.proofs.test.meets.Statement.{statement}
 use Rattle.settled.proofs.test.meets.Tie as tie

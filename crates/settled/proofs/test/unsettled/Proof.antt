@@ -8,7 +8,8 @@ use lib.ListN.{length, getD}
 use borrow.Author.Needs.{needs}
 use borrow.Author.Count.{below-more}
 use borrow.Author.Tests.{not-true, not-false}
-use Rattle.orders.specs.Orders.{inMask, orderOf}
+use Rattle.theory.specs.Tests.{inMask}
+use Rattle.orders.specs.Orders.{orderOf}
 use Rattle.settled.proofs.MaskLaws.{narrow-at}
 use Rattle.settled.proofs.test.unsettled.Statement.{statement}
 use Rattle.settled.proofs.test.unsettled.Tie as tie

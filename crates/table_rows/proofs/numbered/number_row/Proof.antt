@@ -1,94 +1,38 @@
--- `table_rows::numbered::number_row` meets its contract, by the three ways to number a row.
+-- `table_rows::numbered::number_row` meets its contract: the whole choice gives the same state.
+use Prim.Native.Nat.{_+_}
 use native.Mathlib.Omega.{arith}
+use mathlib.Core.Path.{subst}
 use denote.Ref.{now}
-use lib.ListN.{length-set}
+use lib.ListN.{take}
 use borrow.Author.Needs.{needs}
-use Rattle.pair_words.proofs.PairWords.{choice-few, placed-two}
-use Rattle.table_rows.specs.Walk.{rowPlace}
-use Rattle.table_rows.proofs.NumberLaws.{numbering-known, numbering-full, numbering-new}
+use Rattle.theory.specs.Scratch.{heldPart, openIn}
+use Rattle.table_rows.specs.Walk.{Numbering}
+use Rattle.table_rows.proofs.OpenLaws.{open-whole}
+use Rattle.table_rows.proofs.FindLaws.{whole-whole}
 use Rattle.table_rows.proofs.numbered.number_row.Statement.{statement}
 use Rattle.table_rows.proofs.numbered.number_row.Tie as tie
 
-find-row-requires : tie.Need-find-row-requires
-find-row-requires c κs = search needs
+whole-requires : tie.Need-whole-requires
+whole-requires c κs = let s = c .before .before in (s .pre .1 .opened (s .args .p) (s .args .m) (s .pre .5) (s .pre .6) .low, search needs, omega arith, search needs, search needs)
+
+number-whole-requires : tie.Need-number-whole-requires
+number-whole-requires c κs =
+    let s = c .before .before .before .before in
+    let a = s .args in
+    let k = c .before .whole in
+    (s .pre .0, s .pre .1, s .pre .2, s .pre .3, s .pre .4, s .pre .5, omega (arith, k .ensures), whole-whole (a .produced) (a .produced + a .tested) (a .sets) (now (a .work)) (s .pre .1 .opened) (a .p) (a .m) (k .result) (s .pre .5) (s .pre .6) (k .ensures), s .pre .7)
 
 same-length : tie.Need-same-length
 same-length c = search needs
 
 returns : tie.Need-returns
 returns c =
-    let s = c .before .before .before .before in
+    let s = c .before .before .before .before .before .before .before in
     let a = s .args in
-    let f = c .before .find-row in
-    numbering-known (a .bits) (a .sets) (now (a .work)) (a .count) (a .p) (a .m) (f .result) (s .pre .0) (f .ensures) (c .if1 .taken)
-
-add-t12 : tie.Need-add-t12
-add-t12 c = search needs
-
-same-length-2 : tie.Need-same-length-2
-same-length-2 c = search needs
-
-returns-2 : tie.Need-returns-2
-returns-2 c =
-    let s = c .before .before .before .before .before in
-    let a = s .args in
-    let f = c .before .before .find-row in
-    numbering-full (a .bits) (a .sets) (now (a .work)) (a .count) (a .p) (a .m) (f .result) (s .pre .0) (f .ensures) (omega arith) (c .if2 .taken)
-
-mul-at : tie.Need-mul-at
-mul-at c = search needs
-
-add-at : tie.Need-add-at
-add-at c = search needs
-
-cast-work : tie.Need-cast-work
-cast-work c = search needs
-
-slice-write-work : tie.Need-slice-write-work
-slice-write-work c = search needs
-
-cast-work-2 : tie.Need-cast-work-2
-cast-work-2 c =
-    let s = c .before .before .before .before .before in
-    omega (arith, s .pre .4, choice-few (s .args .sets) (s .pre .2))
-
-add-work : tie.Need-add-work
-add-work c = search needs
-
-slice-write-work-2 : tie.Need-slice-write-work-2
-slice-write-work-2 c = simp length-set (omega (arith, c .before .before .before .before .before .pre .0 .few))
-
-add-t13 : tie.Need-add-t13
-add-t13 c = search needs
-
-same-length-3 : tie.Need-same-length-3
-same-length-3 c = search needs
-
-returns-3 : tie.Need-returns-3
-returns-3 c =
-    let s = c .before .before .before .before .before in
-    let a = s .args in
-    let f = c .before .before .find-row in
-    rw (placed-two (rowPlace (a .count)) (a .p) (a .m) (now (a .work)) (omega (arith, s .pre .0 .few)))
-    (numbering-new (a .bits) (a .sets) (now (a .work)) (a .count) (a .p) (a .m) (f .result) (s .pre .0) (f .ensures) (omega arith) (omega (arith, s .pre .0 .few)) (s .pre .3) (s .pre .4) (s .pre .5))
+    let k = c .before .before .before .before .whole in
+    let n = c .before .before .number-whole in
+    subst (λ x. Numbering (a .produced) (a .produced + a .tested) (a .sets) (now (a .work)) (n .last .0) x (a .count) (n .result .number) (n .result .count))
+    (open-whole (a .produced + a .tested) (a .sets) (take heldPart (now (a .work))) (a .p) (a .m) (openIn (a .sets) (now (a .work)) (a .p) (a .m)) (s .pre .1 .opened (a .p) (a .m) (s .pre .5) (s .pre .6)) (s .pre .6) (k .result) (k .ensures)) (n .ensures)
 
 pub number-row-spec : {M : Type 1} → statement M
-number-row-spec =
-    tie.close
-    (tie.spec
-    find-row-requires
-    same-length
-    returns
-    add-t12
-    same-length-2
-    returns-2
-    mul-at
-    add-at
-    cast-work
-    slice-write-work
-    cast-work-2
-    add-work
-    slice-write-work-2
-    add-t13
-    same-length-3
-    returns-3)
+number-row-spec = tie.close (tie.spec whole-requires number-whole-requires same-length returns)

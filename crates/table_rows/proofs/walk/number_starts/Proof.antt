@@ -23,16 +23,13 @@ abbrev μ-loop : tie.MeasureT-loop
 loop-holds : tie.Need-loop-holds Inv-loop μ-loop
 loop-holds c =
     let a = c .before .args in
-    (starting-none (sizesOf (a .produced) (a .tested) (a .sets)) (now (a .work)), search needs, search needs, refl)
-
-add-number-row : tie.Need-add-number-row Inv-loop μ-loop
-add-number-row c = search needs
+    (starting-none (sizesOf (a .produced) (a .tested) (a .sets)) (now (a .work)) (c .before .pre .0), search needs, search needs, refl)
 
 number-row-requires : tie.Need-number-row-requires Inv-loop μ-loop
 number-row-requires c κs =
     let s = c .before .before .before .before in
     let l = c .before .before .loop in
-    (l .inv .0 .pairs, search needs, search needs, omega arith, pow-pos (s .args .sets), omega arith)
+    (l .inv .0 .pairs, l .inv .0 .wholes, search needs, search needs, search needs, omega arith, pow-pos (s .args .sets), omega arith)
 
 cast-work : tie.Need-cast-work Inv-loop μ-loop
 cast-work c =
@@ -86,7 +83,6 @@ number-starts-spec =
     Inv-loop
     μ-loop
     loop-holds
-    add-number-row
     number-row-requires
     cast-work
     add-work

@@ -21,16 +21,13 @@ abbrev μ-loop : tie.MeasureT-loop
 loop-holds : tie.Need-loop-holds Inv-loop μ-loop
 loop-holds c = (c .before .pre .0, search needs, refl)
 
-add-number-row : tie.Need-add-number-row Inv-loop μ-loop
-add-number-row c = search needs
-
 with-set-requires : tie.Need-with-set-requires Inv-loop μ-loop
 with-set-requires c κs = (c .before .before .loop .inv .0 .choice, search needs, search needs)
 
 number-row-requires : tie.Need-number-row-requires Inv-loop μ-loop
 number-row-requires c κs =
     let t = c .before .before .before .loop .inv .0 in
-    (t .visiting .pairs, search needs, search needs, t .order, c .with-set .ensures .1, omega arith)
+    (t .visiting .pairs, t .visiting .wholes, search needs, search needs, search needs, t .order, c .with-set .ensures .1, omega arith)
 
 same-length : tie.Need-same-length Inv-loop μ-loop
 same-length c = search needs
@@ -86,7 +83,6 @@ take-sets-spec =
     Inv-loop
     μ-loop
     loop-holds
-    add-number-row
     with-set-requires
     number-row-requires
     same-length

@@ -1,4 +1,4 @@
--- `table_rows::walk::with_set` meets its contract: the shift loses no bit, and set s is one of the sets.
+-- `table_rows::open_sets::with_set` meets its contract: the shift loses no bit, and set s is one of the sets.
 use Prim.Native.Nat.{_*_, _%_, _^_}
 use native.Mathlib.Nat.{one-mul}
 use native.Mathlib.Omega.{arith}
@@ -6,8 +6,8 @@ use mathlib.Core.Path.{_≡_, _∙_, ap}
 use lib.Bits.{bitOr, or-lt}
 use lib.Pow.{shl-exact, pow-lt}
 use borrow.Author.Needs.{needs}
-use Rattle.table_rows.proofs.walk.with_set.Statement.{statement}
-use Rattle.table_rows.proofs.walk.with_set.Tie as tie
+use Rattle.table_rows.proofs.open_sets.with_set.Statement.{statement}
+use Rattle.table_rows.proofs.open_sets.with_set.Tie as tie
 
 shl-result : tie.Need-shl-result
 shl-result c = search needs
