@@ -46,8 +46,8 @@ held-bits b x p h =
     ∙ ap₂ (λ o n. heldUnder (readQuery b) o (bitsOf n x)) (sym (produced-at b p [] h)) (sym (set-count b))
 
 -- a mask has room for the columns of each order
-pub order-narrow : (b : Bytes) → queryRefusal b ≡ passed → (i : ℕ) → i < orderCount b → {o : List ℕ} → o ≡ orderAt b i → Narrow o
-order-narrow b e i h {o} same c m =
+pub order-narrow : (b : Bytes) → queryRefusal b ≡ passed → (i : ℕ) {o : List ℕ} → o ≡ orderAt b i → i < orderCount b → Narrow o
+order-narrow b e i same h c m =
     let p = query-passed b e in
     let l = p .order i h .columns .below c (subst (λ k. List·Memᴰ c k) same m) in
     omega (arith, l, p .sized .few-columns)

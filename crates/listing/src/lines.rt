@@ -22,8 +22,9 @@ pub fn count_line(table: &[u8], text: &mut [u8], at: usize) -> usize
     requires { ⌜ at + longestCount ≤ length (now text) ⌝ }
     ensures { λ r. ⌜ Wrote (now (text .entry)) at (countLine (now (table .entry))) longestCount (now (text .exit)) r ⌝ }
 {
+    let count = states(table);
     let first = word(text, at, b"states ");
-    let end = number(text, first, states(table));
+    let end = number(text, first, count);
     word(text, end, b"\n")
 }
 

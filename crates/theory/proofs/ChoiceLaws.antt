@@ -2,7 +2,7 @@
 use Prim.Native.Nat.{ℕ, zero, suc, _<_, suc-le-suc}
 use native.Mathlib.Nat.{le-of-suc-le-suc, not-suc-le-zero}
 use native.Mathlib.Omega.{arith}
-use mathlib.Core.Path.{_≡_, refl, sym, _∙_, ap, ap₂}
+use mathlib.Core.Path.{_≡_, refl, sym, _∙_, ap}
 use mathlib.Core.Logic.{_↔_}
 use mathlib.Core.Bool.{Bool, true, false, _||_, false≢true, or-true, or-false}
 use mathlib.Core.List.{List, [], _∷_, map, List·Memᴰ, List·Memᴰ·head, List·Memᴰ·tail, List·Memᴰ·not-nil, List·Memᴰ·eq-of-singleton, flatten}
@@ -11,7 +11,7 @@ use lib.ListN.{length, length-replicate}
 use lib.Seq.{ext-getD}
 use Rattle.theory.specs.Tests.{Says, holds, fails, pick, member, upFrom}
 use Rattle.theory.specs.Machine.{AllBelow}
-use Rattle.theory.specs.Choices.{Choice, inForce, noSets, withSet, withSets, either}
+use Rattle.theory.specs.Choices.{Choice, inForce, noSets, withSet, withSets}
 use Rattle.theory.proofs.Reflect.{says-eqb, says-member, says-one, says-as, says-by, decides-number}
 use Rattle.theory.proofs.ListLaws.{member-flatten-map, flatten-map-member, upFrom-member}
 
@@ -29,13 +29,6 @@ none-force : (n s : ℕ) → inForce (noSets n) s ≡ false
 none-force zero s = refl
 none-force (suc n) zero = refl
 none-force (suc n) (suc s) = none-force n s
-
-pub with-keeps : (c : Choice) (s k : ℕ) → inForce c k ≡ true → inForce (withSet c s) k ≡ true
-with-keeps [] s k e = e
-with-keeps (b ∷ c) zero zero e = refl
-with-keeps (b ∷ c) zero (suc k) e = e
-with-keeps (b ∷ c) (suc s) zero e = e
-with-keeps (b ∷ c) (suc s) (suc k) e = with-keeps c s k e
 
 with-own : (c : Choice) (s : ℕ) → s < length c → inForce (withSet c s) s ≡ true
 with-own [] s h = absurd (not-suc-le-zero h)
@@ -121,30 +114,3 @@ choice-sets n c e =
     (λ s.
     taken-force n (setsIn c) (λ k m. rw (← e) (sets-below c k m)) s
     ∙ says-one (says-member decides-number s (setsIn c)) (says-by (inForce c s) (in-sets c s) (λ f m. false≢true (sym f ∙ sets-in c s m))))
-
--- Two choices together.
-pub either-with : (c d : Choice) (s : ℕ) → either (withSet c s) d ≡ either c (withSet d s)
-either-with [] d s = refl
-either-with (a ∷ c) [] zero = refl
-either-with (a ∷ c) [] (suc s) = refl
-either-with (a ∷ c) (b ∷ d) zero = ap (λ x. x ∷ either c d) (sym (or-true a))
-either-with (a ∷ c) (b ∷ d) (suc s) = ap (λ x. (a || b) ∷ x) (either-with c d s)
-
-pub either-none : (n : ℕ) (d : Choice) → length d ≡ n → either (noSets n) d ≡ d
-either-none zero [] e = refl
-either-none zero (b ∷ d) e = absurd (omega arith)
-either-none (suc n) [] e = absurd (omega arith)
-either-none (suc n) (b ∷ d) e = ap (λ x. b ∷ x) (either-none n d (omega arith))
-
-pub either-no-more : (n : ℕ) (c : Choice) → length c ≡ n → either c (noSets n) ≡ c
-either-no-more zero [] e = refl
-either-no-more zero (b ∷ c) e = absurd (omega arith)
-either-no-more (suc n) [] e = absurd (omega arith)
-either-no-more (suc n) (b ∷ c) e = ap₂ _∷_ (or-false b) (either-no-more n c (omega arith))
-
--- the first is in force in both together
-pub either-keeps : (c d : Choice) → length c ≡ length d → (s : ℕ) → inForce c s ≡ true → inForce (either c d) s ≡ true
-either-keeps [] d e s f = f
-either-keeps (a ∷ c) [] e s f = absurd (omega arith)
-either-keeps (a ∷ c) (b ∷ d) e zero f = ap (λ x. x || b) f
-either-keeps (a ∷ c) (b ∷ d) e (suc s) f = either-keeps c d (omega arith) s f

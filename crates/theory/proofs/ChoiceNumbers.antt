@@ -1,5 +1,5 @@
 -- Choices and their numbers: the bits of a choice's number are the choice, and a set that comes into force sets its bit.
-use Prim.Native.Nat.{ℕ, zero, suc, _+_, _*_, _/_, _%_, _^_, _<_, _≤_, max}
+use Prim.Native.Nat.{ℕ, zero, suc, _+_, _*_, _/_, _%_, _^_, _<_, max}
 use native.Mathlib.Nat.{mod-eq-of-lt, pow-succ', div-one, div-div-eq-div-mul, le-of-suc-le-suc, not-suc-le-zero}
 use native.Mathlib.Numerals.{add-one}
 use native.Mathlib.Omega.{arith}
@@ -12,7 +12,7 @@ use lib.Dec.{eqb}
 use lib.ListN.{length, take, getD, length-take}
 use lib.Pow.{mod-pow-add}
 use Rattle.theory.specs.Tests.{bitsOf}
-use Rattle.theory.specs.Choices.{Choice, inForce, noSets, withSet}
+use Rattle.theory.specs.Choices.{Choice, noSets, withSet}
 use Rattle.theory.specs.Table.{bit, number, heldBytes}
 use Rattle.theory.proofs.RowLaws.{bit-below, bit-tested, eqb-bit, number-fits, number-split}
 
@@ -54,11 +54,6 @@ pub bits-entry : (n x i : ℕ) → i < n → getD (bitsOf n x) i false ≡ eqb (
 bits-entry zero x i h = absurd (not-suc-le-zero h)
 bits-entry (suc n) x zero h = ap (λ y. eqb (y % 2) 1) (sym (div-one x))
 bits-entry (suc n) x (suc i) h = bits-entry n (x / 2) i (le-of-suc-le-suc h) ∙ ap (λ y. eqb (y % 2) 1) (div-div-eq-div-mul x 2 (2 ^ i) ∙ ap (λ y. x / y) (sym (pow-succ' 2 i)))
-
-in-force-none : (n x s : ℕ) → n ≤ s → inForce (bitsOf n x) s ≡ false
-in-force-none zero x s h = refl
-in-force-none (suc n) x zero h = absurd (not-suc-le-zero h)
-in-force-none (suc n) x (suc s) h = in-force-none n (x / 2) s (le-of-suc-le-suc h)
 
 -- where no set is in force the number is 0
 pub number-none : (n : ℕ) → number (noSets n) ≡ 0

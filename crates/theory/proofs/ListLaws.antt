@@ -90,19 +90,6 @@ module _ {A : Type 0} where
   flatten-member {x} {l} (List·Memᴰ·head {x = k} {xs = ls} e) m = Memᴰ·append-left (flatten ls) (subst (λ (j : List A). List·Memᴰ x j) e m)
   flatten-member (List·Memᴰ·tail {x = k} n) m = Memᴰ·append-right k (flatten-member n m)
 
-module _ {A : Type 0} where
-  -- different things, and others behind them
-  pub distinct-append : {l m : List A} → Distinct l → Distinct m → ((x : A) → List·Memᴰ x l → ¬ List·Memᴰ x m) → Distinct (l ++ m)
-  distinct-append empty d apart = d
-  distinct-append {m} (also {x} {xs} n e) d apart =
-      also (λ i. ⊎-elim n (apart x (List·Memᴰ·head refl)) (List·Memᴰ·append-cases xs i)) (distinct-append e d (λ y i. apart y (List·Memᴰ·tail i)))
-
-  -- different things stand at different numbers
-  pub distinct-apart : {l : List A} (d : A) → Distinct l → (i k : ℕ) → i < length l → k < i → getD l i d ≡ getD l k d → ⊥
-  distinct-apart {l = x ∷ xs} d (also n r) zero k h l e = absurd (not-suc-le-zero l)
-  distinct-apart {l = x ∷ xs} d (also n r) (suc i) zero h l e = n (Memᴰ·cast (sym e) (member-getD xs i d (le-of-suc-le-suc h)))
-  distinct-apart {l = x ∷ xs} d (also n r) (suc i) (suc k) h l e = distinct-apart d r i k (le-of-suc-le-suc h) (le-of-suc-le-suc l) e
-
 module _ {A B : Type 0} where
   -- functions that agree on a list give the same list
   pub map-members : (g h : A → B) (l : List A) → ((x : A) → List·Memᴰ x l → g x ≡ h x) → map g l ≡ map h l
@@ -143,15 +130,6 @@ module _ {A B : Type 0} (f : A → List B) where
   pub flatten-map-member : {x : A} {y : B} {l : List A} → List·Memᴰ x l → List·Memᴰ y (f x) → List·Memᴰ y (flatten (map f l))
   flatten-map-member m k = flatten-member (Memᴰ·map f m) k
 
-  -- Lists of different things, no two of which share one, are different things one after the other.
-  pub distinct-flatten : {l : List A} → Distinct l → ((x : A) → Distinct (f x)) → ((x y : A) → List·Memᴰ x l → List·Memᴰ y l → (w : B) → List·Memᴰ w (f x) → List·Memᴰ w (f y) → x ≡ y) →
-      Distinct (flatten (map f l))
-  unfolding flatten
-  distinct-flatten empty each apart = empty
-  distinct-flatten (also {x} {xs} n d) each apart =
-      distinct-append (each x) (distinct-flatten d each (λ y z i j. apart y z (List·Memᴰ·tail i) (List·Memᴰ·tail j)))
-      (λ w i j. let t = member-flatten-map xs j in n (Memᴰ·cast (apart x (t .0) (List·Memᴰ·head refl) (List·Memᴰ·tail (t .1)) w i (t .2)) (t .1)))
-
 -- the numbers from k on
 pub member-upFrom : (k n : ℕ) {x : ℕ} → List·Memᴰ x (upFrom k n) → (k ≤ x) × (x < k + n)
 member-upFrom k zero m = absurd (List·Memᴰ·not-nil m)
@@ -170,7 +148,3 @@ pub upFrom-getD : (k n i d : ℕ) → i < n → getD (upFrom k n) i d ≡ k + i
 upFrom-getD k zero i d h = absurd (not-suc-le-zero h)
 upFrom-getD k (suc n) zero d h = omega arith
 upFrom-getD k (suc n) (suc i) d h = upFrom-getD (suc k) n i d (le-of-suc-le-suc h) ∙ omega arith
-
-pub upFrom-distinct : (k n : ℕ) → Distinct (upFrom k n)
-upFrom-distinct k zero = empty
-upFrom-distinct k (suc n) = also {x = k} (λ i. let t = member-upFrom (suc k) n i in let z : ⊥ = omega (arith, t .0) in absurd z) (upFrom-distinct (suc k) n)

@@ -35,11 +35,6 @@ module _ {A : Type 0} {x : A} where
   spot-one (later n s) (found e) = absurd (n e)
   spot-one (later n s) (later k t) = ap suc (spot-one s t)
 
-  spot-within : {l : List A} {n : ℕ} → Spot x l n → n ≤ length l
-  spot-within none = zero-le
-  spot-within (found e) = zero-le
-  spot-within (later n s) = suc-le-suc (spot-within s)
-
   spot-reads : {l : List A} {n : ℕ} (d : A) → Spot x l n → n < length l → getD l n d ≡ x
   spot-reads d none h = absurd (not-suc-le-zero h)
   spot-reads d (found e) h = sym e

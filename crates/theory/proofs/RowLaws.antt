@@ -1,6 +1,6 @@
 -- Facts over any width and any index: lists read entry by entry, rows of one width put end to end and cut out again, bits as a number, and checks that all pass.
-use Prim.Native.Nat.{ℕ, zero, suc, _+_, _*_, _/_, _%_, _^_, _<_, _≤_}
-use native.Mathlib.Nat.{zero-add, suc-add, add-suc, add-zero, add-comm, zero-mul, mul-zero, suc-mul, mul-assoc, not-suc-le-zero, le-of-suc-le-suc, lt-of-lt-of-le, zero-div, div-div-eq-div-mul, pow-succ'}
+use Prim.Native.Nat.{ℕ, zero, suc, _+_, _*_, _%_, _^_, _<_, _≤_}
+use native.Mathlib.Nat.{zero-add, suc-add, add-suc, add-zero, add-comm, zero-mul, mul-zero, suc-mul, mul-assoc, not-suc-le-zero, le-of-suc-le-suc, lt-of-lt-of-le, pow-succ'}
 use native.Mathlib.Omega.{arith}
 use mathlib.Core.Path.{_≡_, refl, sym, _∙_, ap, ap₂, subst}
 use mathlib.Core.Logic.{⊎-elim}
@@ -96,14 +96,6 @@ bit-tested x = go (says-eqb (x % 2) 1)
     go : {b : Bool} → Says (x % 2 ≡ 1) b → x % 2 ≡ bit b
     go (holds e) = e
     go (fails n) = omega arith
-
--- bit k of a number is entry k of the bits that it was made from
-pub number-bit : (bs : List Bool) (k : ℕ) → number bs / 2 ^ k % 2 ≡ bit (getD bs k false)
-number-bit [] k = rw zero-div
-number-bit (b ∷ bs) zero = omega (arith, bit-below b)
-number-bit (b ∷ bs) (suc k) =
-    let half : number (b ∷ bs) / 2 ≡ number bs = omega (arith, bit-below b) in
-    rw (pow-succ', ← div-div-eq-div-mul, half) (number-bit bs k)
 
 -- as many bits make a number below that power of 2, and so do fewer
 pub number-below : (bs : List Bool) → number bs < 2 ^ length bs

@@ -1,6 +1,6 @@
 -- Document 02, Req 03: a set that has been taken stays in force. A choice says of each set whether it is in force, and its number has bit i for set i.
 use Prim.Native.Nat.{ℕ, zero, suc}
-use mathlib.Core.Bool.{Bool, true, false, _||_}
+use mathlib.Core.Bool.{Bool, true, false}
 use mathlib.Core.List.{List, [], _∷_}
 use lib.ListN.{getD, replicate}
 use Rattle.theory.specs.Orders.{Rule, Query, rulesIn}
@@ -26,12 +26,6 @@ withSet (b ∷ c) (suc s) = b ∷ withSet c s
 abbrev pub withSets : Choice → List ℕ → Choice
 withSets c [] = c
 withSets c (s ∷ ss) = withSets (withSet c s) ss
-
--- The sets in force in either of two choices.
-abbrev pub either : Choice → Choice → Choice
-either [] d = []
-either (a ∷ c) [] = []
-either (a ∷ c) (b ∷ d) = (a || b) ∷ either c d
 
 -- The rules of all sets in force together.
 abbrev pub rulesUnder : Query → Choice → List Rule

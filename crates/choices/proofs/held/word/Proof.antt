@@ -56,8 +56,8 @@ held-requires c κs = let s = c .before .before .before .before .before .before 
   omega (arith, f .few, f .left-length),
   omega (arith, f .few, f .right-length),
   f .classes-length,
-  order-narrow b (f .checked) (s .args .p) (omega (arith, s .pre .1)) (c .before .before .before .before .before .order .ensures .order),
-  order-narrow b (f .checked) (c .before .before .loop .i - 1) (omega arith) (c .order2 .ensures .order),
+  order-narrow b (f .checked) _ (c .before .before .before .before .before .order .ensures .order) (omega (arith, s .pre .1)),
+  order-narrow b (f .checked) _ (c .order2 .ensures .order) (omega arith),
 )
 
 with-bit-requires : tie.Need-with-bit-requires Inv-loop μ-loop
