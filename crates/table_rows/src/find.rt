@@ -3,11 +3,11 @@ ghost use mathlib.Core.Path.{_≡_};
 ghost use Prim.Native.Nat.{_+_, _^_, _≤_, _<_};
 ghost use lib.ListN.{length, take};
 ghost use Rattle.theory.specs.Tests.{position};
-ghost use Rattle.theory.specs.Limits.{maxProduced, maxTested, maxSets};
+ghost use Rattle.theory.specs.Limits.{maxProduced, maxTested, maxSets, maxStates};
 ghost use Rattle.theory.specs.AnswerTree.{sameTree};
 ghost use Rattle.theory.specs.Query.{byteAt};
 ghost use Rattle.theory.specs.Scratch.{heldPart, workLength};
-ghost use Rattle.table_rows.specs.Walk.{cutWord, stateOf, rowStates, Whole, Pairs, Wholes};
+ghost use Rattle.table_rows.specs.Walk.{cutWord, stateOf, rowPlace, rowStates, Whole, Pairs, Wholes};
 use numbers::limits::HELD_WIDTH;
 use numbers::scratch::HELD_PART;
 
@@ -35,6 +35,22 @@ pub fn byte(work: &[u8], at: usize) -> usize
     work[at] as usize
 }
 
+// The produced order of row i's pair.
+pub fn row_order(work: &[u8], i: usize) -> usize
+    requires { ⌜ (i < maxStates) × (workLength ≤ length (now work)) ⌝ }
+    ensures { λ r. ⌜ r ≡ byteAt (now (work .entry)) (rowPlace i) ⌝ }
+{
+    byte(work, HELD_PART + i * HELD_WIDTH)
+}
+
+// Its choice.
+pub fn row_choice(work: &[u8], i: usize) -> usize
+    requires { ⌜ (i < maxStates) × (workLength ≤ length (now work)) ⌝ }
+    ensures { λ r. ⌜ r ≡ byteAt (now (work .entry)) (rowPlace i + 1) ⌝ }
+{
+    byte(work, HELD_PART + i * HELD_WIDTH + 1)
+}
+
 // The number of the row that produced order p gives under a whole choice m, the one that holds the same under every choice of further sets; the count where there is none. A row
 // with another whole choice is another; with the same one it is the same where the words under all larger choices are.
 pub fn find_row(
@@ -53,12 +69,11 @@ pub fn find_row(
     let choices = pair_words::choices(sets);
     let mut i = 0;
     'row: while i < count {
-        let at = HELD_PART + i * HELD_WIDTH;
-        if byte(work, at + 1) != m {
+        if row_choice(work, i) != m {
             i += 1;
             continue 'row;
         }
-        let q = byte(work, at);
+        let q = row_order(work, i);
         let mut x = m;
         while x < choices {
             if cut_word(work, bits, sets, p, x) != cut_word(work, bits, sets, q, x) {

@@ -18,15 +18,10 @@ fn hold_row(work: &mut [u8], bits: usize, sets: usize, i: usize)
     requires { ⌜ (byteAt (now work) (rowPlace i) < maxProduced) × (byteAt (now work) (rowPlace i + 1) < 2 ^ sets) × (i < maxStates) × (bits ≤ maxProduced + maxTested) × (sets ≤ maxSets) × (workLength ≤ length (now work)) ⌝ }
     ensures { λ r. ⌜ now (work .exit) ≡ placed (rowPlace i) (heldRow bits sets (now (work .entry)) i) (now (work .entry)) ⌝ }
 {
-    let at = HELD_PART + i * HELD_WIDTH;
-    let word = find::cut_word(
-        work,
-        bits,
-        sets,
-        find::byte(work, at),
-        find::byte(work, at + 1),
-    );
-    pair_words::put(work, at, word as u16);
+    let p = find::row_order(work, i);
+    let m = find::row_choice(work, i);
+    let word = find::cut_word(work, bits, sets, p, m);
+    pair_words::put(work, HELD_PART + i * HELD_WIDTH, word as u16);
 }
 
 // Each row's pair becomes its held word.

@@ -8,9 +8,7 @@ ghost use lib.ListN.{length, take};
 ghost use Rattle.theory.specs.Limits.{maxProduced, maxTested, maxSets, maxStates};
 ghost use Rattle.theory.specs.Scratch.{heldPart, successorsPart, startsPart, workLength};
 ghost use Rattle.table_rows.specs.Walk.{Opened, Visited, Taking, Walked, sizesOf};
-use numbers::limits::HELD_WIDTH;
 use numbers::limits::MAX_STATES;
-use numbers::scratch::HELD_PART;
 use numbers::scratch::STARTS_PART;
 use numbers::scratch::SUCCESSORS_PART;
 
@@ -89,9 +87,8 @@ fn visit(
     requires { ⌜ Visited (sizesOf produced tested sets) (take heldPart (now work)) (now work) count i × (i < count) × (produced ≤ maxProduced) × (tested ≤ maxTested) × (sets ≤ maxSets) × (workLength ≤ length (now work)) ⌝ }
     ensures { λ r. ⌜ Walked (sizesOf produced tested sets) (take heldPart (now (work .entry))) (now (work .exit)) r (i + 1) × (length (now (work .exit)) ≡ length (now (work .entry))) ⌝ }
 {
-    let at = HELD_PART + i * HELD_WIDTH;
-    let p = find::byte(work, at);
-    let m = find::byte(work, at + 1);
+    let p = find::row_order(work, i);
+    let m = find::row_choice(work, i);
     take_sets(work, produced, tested, sets, count, i, p, m)
 }
 

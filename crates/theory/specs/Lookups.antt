@@ -57,14 +57,14 @@ pub data Answers (q : Query) : Order → List ℕ → List Lookup → List Answe
       i < length (interesting q) → Says (After q p ss (getD (interesting q) i [])) held → (held ≡ true → HoldsOfRows (rulesOf q ss) p (getD (interesting q) i [])) →
       Answers q p ss ls rs → Answers q p ss (asking i ∷ ls) (grant (bit held) ∷ rs)
 
--- A machine tells a query's derivation: after a start and any run of sets, an interesting order is held exactly when the uncut derivation gives it.
+-- A machine tells a query's derivation: after a start and any run of sets, an interesting order is held exactly when the derivation gives it.
 abbrev pub Tells : {X : Type 0} → Query → Machine X → Type 0
 Tells q m =
     (p i : ℕ) (ss : List ℕ) → p < length (q .produced) → AllBelow (q .sets) ss → i < length (interesting q) →
     Says (After q (getD (q .produced) p []) ss (getD (interesting q) i [])) (getD (m .held (runs m (m .start p) ss)) i false)
 
 -- A table is faithful to a query when it has its sizes and, from every produced order's start and through every list of sets, says of each interesting order
--- whether the uncut derivation gives it. This is all that the lookups' answers rest on.
+-- whether the derivation gives it. This is all that the lookups' answers rest on.
 pub record Faithful (q : Query) (t : Bytes) : Type 0 where
   pub form : formRefusal t ≡ passed
   pub produced-size : producedIn t ≡ length (q .produced)

@@ -48,7 +48,7 @@ unfoldable pub verifyRefusal : Bytes → Bytes → ℕ → ℕ
 verifyRefusal query t scratch =
     firstRefusal (queryRefusal query) (pick (ltb scratch scratchLength) space-refused (verifiedWith (readQuery query) (construct (readQuery query)) t))
 
--- An answer that the table gives from the start of a produced order, through a run of sets, and that is not the one that the uncut derivation gives.
+-- An answer that the table gives from the start of a produced order, through a run of sets, and that is not the one that the derivation gives.
 pub record WrongAnswer (q : Query) (t : Bytes) : Type 0 where
   pub order : ℕ
   pub produced : order < length (q .produced)

@@ -15,11 +15,11 @@ use Rattle.table_rows.proofs.find.find_row.Statement.{statement}
 use Rattle.table_rows.proofs.find.find_row.Tie as tie
 
 abbrev Inv-loop : tie.InvT-loop
-Inv-loop work produced tested sets count p m bits choices i₀ at q x₀ i x =
+Inv-loop work produced tested sets count p m bits choices i₀ q x₀ i x =
     (i ≡ i₀) × (bitOr x m ≡ x) × ((y : ℕ) → y < x → y < 2 ^ sets → bitOr y m ≡ y → cutWord bits sets (take heldPart work) p y ≡ cutWord bits sets (take heldPart work) q y)
 
 abbrev μ-loop : tie.MeasureT-loop
-μ-loop work produced tested sets count p m bits choices i₀ at q x₀ i x = choices - x
+μ-loop work produced tested sets count p m bits choices i₀ q x₀ i x = choices - x
 
 abbrev Inv-row : tie.InvT-row
 Inv-row work produced tested sets count p m bits choices i₀ i = Searched bits sets work count p m i × (i ≤ count)
@@ -36,17 +36,8 @@ choices-requires c κs = search needs
 row-holds : tie.Need-row-holds Inv-loop μ-loop Inv-row μ-row
 row-holds c = let a = c .before .before .args in (searched-none (a .produced + a .tested) (a .sets) (now (a .work)) (a .count) (a .p) (a .m), search needs)
 
-mul-at : tie.Need-mul-at Inv-loop μ-loop Inv-row μ-row
-mul-at c = omega (arith, c .before .before .before .before .pre .0 .few)
-
-add-at : tie.Need-add-at Inv-loop μ-loop Inv-row μ-row
-add-at c = omega (arith, c .before .before .before .before .pre .0 .few)
-
-add-byte : tie.Need-add-byte Inv-loop μ-loop Inv-row μ-row
-add-byte c = omega (arith, c .before .before .before .before .pre .0 .few)
-
-byte-requires : tie.Need-byte-requires Inv-loop μ-loop Inv-row μ-row
-byte-requires c κs = omega (arith, c .before .before .before .before .pre .0 .few)
+row-choice-requires : tie.Need-row-choice-requires Inv-loop μ-loop Inv-row μ-row
+row-choice-requires c κs = omega (arith, c .before .before .before .before .pre .0 .few)
 
 add-i : tie.Need-add-i Inv-loop μ-loop Inv-row μ-row
 add-i c = search needs
@@ -61,13 +52,13 @@ row-again c =
     let r = c .before .before .before .row in
     let w = s .pre .1 in
     let i = r .i in
-    let more = searched-more (a .produced + a .tested) (a .sets) (now (a .work)) (a .count) (a .p) (a .m) (r .inv .0) (omega arith) refl (c .before .byte .ensures)
-    (λ e. c .if1 .taken (other-choice (a .produced) (a .produced + a .tested) (a .sets) (now (a .work)) (w .opened) (a .p) (a .m) (byteAt (now (a .work)) (rowPlace i)) (c .before .byte .result) (s .pre .5) (w .own i (omega arith)) (s .pre .6)
-    (subst (λ k. k < 2 ^ a .sets) (sym (c .before .byte .ensures)) (s .pre .0 .choices i (omega arith))) (s .pre .7) (subst (Whole (a .sets) (now (a .work)) (byteAt (now (a .work)) (rowPlace i))) (sym (c .before .byte .ensures)) (w .whole i (omega arith))) e)) in
+    let more = searched-more (a .produced + a .tested) (a .sets) (now (a .work)) (a .count) (a .p) (a .m) (r .inv .0) (omega arith) refl (c .before .row-choice .ensures)
+    (λ e. c .if1 .taken (other-choice (a .produced) (a .produced + a .tested) (a .sets) (now (a .work)) (w .opened) (a .p) (a .m) (byteAt (now (a .work)) (rowPlace i)) (c .before .row-choice .result) (s .pre .5) (w .own i (omega arith)) (s .pre .6)
+    (subst (λ k. k < 2 ^ a .sets) (sym (c .before .row-choice .ensures)) (s .pre .0 .choices i (omega arith))) (s .pre .7) (subst (Whole (a .sets) (now (a .work)) (byteAt (now (a .work)) (rowPlace i))) (sym (c .before .row-choice .ensures)) (w .whole i (omega arith))) e)) in
     (more, search needs)
 
-byte-requires-2 : tie.Need-byte-requires-2 Inv-loop μ-loop Inv-row μ-row
-byte-requires-2 c κs = omega (arith, c .before .before .before .before .before .before .pre .0 .few)
+row-order-requires : tie.Need-row-order-requires Inv-loop μ-loop Inv-row μ-row
+row-order-requires c κs = omega (arith, c .before .before .before .before .before .before .pre .0 .few)
 
 loop-holds : tie.Need-loop-holds Inv-loop μ-loop Inv-row μ-row
 loop-holds c = let a = c .before .before .before .before .before .before .before .args in (refl, or-self (a .m), λ y h l e. absurd (omega (arith, or-below y (a .m) e)))
@@ -79,7 +70,7 @@ cut-word-requires-2 : tie.Need-cut-word-requires-2 Inv-loop μ-loop Inv-row μ-r
 cut-word-requires-2 c κs =
     let s = c .before .before .before .before .before .before .before .before .before .before in
     let i = c .before .before .before .before .before .before .before .row .i in
-    (search needs, omega (arith, c .before .before .before .byte2 .ensures, s .pre .0 .orders i (omega arith)), search needs, omega arith, search needs)
+    (search needs, omega (arith, c .before .before .before .row-order .ensures, s .pre .0 .orders i (omega arith)), search needs, omega arith, search needs)
 
 add-i-2 : tie.Need-add-i-2 Inv-loop μ-loop Inv-row μ-row
 add-i-2 c = search needs
@@ -94,8 +85,8 @@ row-again-2 c =
     let r = c .before .before .before .before .before .before .before .before .before .row in
     let l = c .before .before .before .before .loop in
     let same = c .before .before .before .before .before .before .if1 .left in
-    let more = searched-more (a .produced + a .tested) (a .sets) (now (a .work)) (a .count) (a .p) (a .m) (r .inv .0) (omega arith) (c .before .before .before .before .before .byte2 .ensures) (sym same ∙ c .before .before .before .before .before .before .before .byte .ensures)
-    (λ e. c .if2 .taken (c .before .before .cut-word .ensures .0 ∙ superset-tells (a .produced + a .tested) (a .sets) (take heldPart (now (a .work))) (a .p) (c .before .before .before .before .before .byte2 .result) (a .m) e (l .x) (omega arith) (l .inv .1) ∙ sym (c .before .cut-word2 .ensures .0))) in
+    let more = searched-more (a .produced + a .tested) (a .sets) (now (a .work)) (a .count) (a .p) (a .m) (r .inv .0) (omega arith) (c .before .before .before .before .before .row-order .ensures) (sym same ∙ c .before .before .before .before .before .before .before .row-choice .ensures)
+    (λ e. c .if2 .taken (c .before .before .cut-word .ensures .0 ∙ superset-tells (a .produced + a .tested) (a .sets) (take heldPart (now (a .work))) (a .p) (c .before .before .before .before .before .row-order .result) (a .m) e (l .x) (omega arith) (l .inv .1) ∙ sym (c .before .cut-word2 .ensures .0))) in
     (rw (l .inv .0) more, search needs)
 
 add-x : tie.Need-add-x Inv-loop μ-loop Inv-row μ-row
@@ -109,7 +100,7 @@ loop-again c =
     let a = c .before .before .before .before .before .before .before .before .before .before .before .before .args in
     let l = c .before .before .before .before .loop in
     let word = cutWord (a .produced + a .tested) (a .sets) (take heldPart (now (a .work))) in
-    let q = c .before .before .before .before .before .byte2 .result in (
+    let q = c .before .before .before .before .before .row-order .result in (
       l .inv .0,
       superset-has (a .m) (l .x),
       λ y h k e. superset-step (λ n. n < 2 ^ a .sets → word (a .p) n ≡ word q n) (a .m) (l .x) (l .inv .1) (λ d. sym (c .before .before .cut-word .ensures .0) ∙ c .if2 .left ∙ c .before .cut-word2 .ensures .0) (λ z d f b. l .inv .2 z d b f) y h e k,
@@ -121,8 +112,8 @@ returns c =
     let a = s .args in
     let l = c .before .loop in
     let same = c .before .before .before .if1 .left in
-    l .inv .0 ∙ searched-found (a .produced + a .tested) (a .sets) (now (a .work)) (a .count) (a .p) (a .m) (c .before .before .before .before .before .before .row .inv .0) (omega arith) (c .before .before .byte2 .ensures) (sym same ∙ c .before .before .before .before .byte .ensures)
-    (supersets-same (a .produced + a .tested) (a .sets) (take heldPart (now (a .work))) (a .p) (c .before .before .byte2 .result) (a .m) (λ y h e. l .inv .2 y (omega arith) h e) (s .pre .6))
+    l .inv .0 ∙ searched-found (a .produced + a .tested) (a .sets) (now (a .work)) (a .count) (a .p) (a .m) (c .before .before .before .before .before .before .row .inv .0) (omega arith) (c .before .before .row-order .ensures) (sym same ∙ c .before .before .before .before .row-choice .ensures)
+    (supersets-same (a .produced + a .tested) (a .sets) (take heldPart (now (a .work))) (a .p) (c .before .before .row-order .result) (a .m) (λ y h e. l .inv .2 y (omega arith) h e) (s .pre .6))
 
 returns-2 : tie.Need-returns-2 Inv-loop μ-loop Inv-row μ-row
 returns-2 c = let a = c .before .before .before .before .args in searched-all (a .produced + a .tested) (a .sets) (now (a .work)) (a .count) (a .p) (a .m) (c .before .row .inv .0) (omega arith)
@@ -138,14 +129,11 @@ find-row-spec =
     add-bits
     choices-requires
     row-holds
-    mul-at
-    add-at
-    add-byte
-    byte-requires
+    row-choice-requires
     add-i
     row-less
     row-again
-    byte-requires-2
+    row-order-requires
     loop-holds
     cut-word-requires
     cut-word-requires-2

@@ -13,23 +13,20 @@ use Rattle.table_rows.proofs.StateLaws.{state-held}
 use Rattle.table_rows.proofs.held.hold_row.Statement.{statement}
 use Rattle.table_rows.proofs.held.hold_row.Tie as tie
 
-mul-at : tie.Need-mul-at
-mul-at c = search needs
+row-order-requires : tie.Need-row-order-requires
+row-order-requires c κs = search needs
 
-add-at : tie.Need-add-at
-add-at c = search needs
-
-byte-requires : tie.Need-byte-requires
-byte-requires c κs = search needs
-
-add-byte : tie.Need-add-byte
-add-byte c = search needs
-
-byte-requires-2 : tie.Need-byte-requires-2
-byte-requires-2 c κs = search needs
+row-choice-requires : tie.Need-row-choice-requires
+row-choice-requires c κs = search needs
 
 cut-word-requires : tie.Need-cut-word-requires
 cut-word-requires c κs = search needs
+
+mul-put : tie.Need-mul-put
+mul-put c = search needs
+
+add-put : tie.Need-add-put
+add-put c = search needs
 
 cast-put : tie.Need-cast-put
 cast-put c = search needs
@@ -43,11 +40,11 @@ same-length c = search needs
 returns : tie.Need-returns
 returns c =
     let t = c .before .before .before .before in
-    let a = t .before .before .before .before .before .args in
+    let a = t .before .before .before .before .before .before .before .args in
     let w = now (a .work) in
     let words = take heldPart w in
     let at = rowPlace (a .i) in
-    let e = t .cut-word .ensures .0 ∙ ap₂ (cutWord (a .bits) (a .sets) words) (t .before .before .byte .ensures) (t .before .byte2 .ensures) in
+    let e = t .cut-word .ensures .0 ∙ ap₂ (cutWord (a .bits) (a .sets) words) (t .before .before .before .before .row-order .ensures) (t .before .before .row-choice .ensures) in
     c .before .before .put .ensures ∙ ap (λ n. placed at (n % 256 ∷ n / 256 ∷ []) w) e
     ∙ ap (λ b. placed at b w) (sym (state-held (a .bits) (a .sets) words (byteAt w at) (byteAt w (at + 1))))
 
@@ -55,12 +52,11 @@ pub hold-row-spec : {M : Type 1} → statement M
 hold-row-spec =
     tie.close
     (tie.spec
-    mul-at
-    add-at
-    byte-requires
-    add-byte
-    byte-requires-2
+    row-order-requires
+    row-choice-requires
     cut-word-requires
+    mul-put
+    add-put
     cast-put
     put-requires
     same-length
