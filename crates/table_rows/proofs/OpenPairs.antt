@@ -15,8 +15,9 @@ use Rattle.theory.specs.Query.{Bytes}
 use Rattle.theory.specs.Scratch.{heldPart, openAt, openIn, workLength}
 use Rattle.theory.proofs.BitLaws.{or-more, raised-has}
 use Rattle.pair_words.proofs.PairWords.{pair-number}
-use Rattle.table_rows.specs.Walk.{OpenSets, Opened}
-use Rattle.table_rows.specs.Open.{NextOpened}
+use Rattle.table_rows.specs.Walk.{cutWord, OpenSets, Opened}
+use Rattle.table_rows.specs.Open.{Gathered, nextOpen, NextOpened}
+use Rattle.table_rows.proofs.OpenLaws.{gathered-same, gathered-other}
 
 -- those of produced order p under the choices from m on lie in their places
 abbrev pub OpenFrom : (bits sets : ℕ) → Bytes → Bytes → (p m : ℕ) → Type 0
@@ -30,6 +31,26 @@ pub next-opened : (bits sets p m : ℕ) (words work : Bytes) → take heldPart w
 next-opened bits sets p m words work e h from t l out =
     subst (λ w. OpenSets bits sets w p (bitOr m (2 ^ t)) (openIn sets work p (bitOr m (2 ^ t)))) (sym e)
     (from (bitOr m (2 ^ t)) (omega (arith, larger m t out)) (or-lt sets m (2 ^ t) h (pow-lt l)))
+
+-- set s, which is not in force, is looked at: x is what is open behind it, v the word with it and w the one without
+module _ (bits sets p m s r : ℕ) (work : Bytes) {k x v w : ℕ} (next : k ≡ bitOr m (2 ^ s)) (behind : x ≡ openIn sets work p k) (with-it : v ≡ cutWord bits sets (take heldPart work) p k)
+    (without : w ≡ cutWord bits sets (take heldPart work) p m) (outside : inMask m s ≡ false) (h : s < sets) (opened : NextOpened bits sets work p m)
+    (g : Gathered bits sets (take heldPart work) (nextOpen sets work p m) p m s r) where
+  open-behind : x ≡ nextOpen sets work p m s
+  open-behind = behind ∙ ap (openIn sets work p) next
+
+  word-with : v ≡ cutWord bits sets (take heldPart work) p (bitOr m (2 ^ s))
+  word-with = with-it ∙ ap (cutWord bits sets (take heldPart work) p) next
+
+  pub looked-same : v ≡ w → Gathered bits sets (take heldPart work) (nextOpen sets work p m) p m (s + 1) (bitOr r x)
+  looked-same e =
+      subst (λ y. Gathered bits sets (take heldPart work) (nextOpen sets work p m) p m (s + 1) (bitOr r y)) (sym open-behind)
+      (gathered-same bits sets (take heldPart work) (nextOpen sets work p m) p m s r outside (opened s h outside .low) (sym word-with ∙ e ∙ without) g)
+
+  pub looked-other : (v ≡ w → ⊥) → Gathered bits sets (take heldPart work) (nextOpen sets work p m) p m (s + 1) (bitOr (bitOr r x) (2 ^ s))
+  looked-other n =
+      subst (λ y. Gathered bits sets (take heldPart work) (nextOpen sets work p m) p m (s + 1) (bitOr (bitOr r y) (2 ^ s))) (sym open-behind)
+      (gathered-other bits sets (take heldPart work) (nextOpen sets work p m) p m s r h outside (opened s h outside .low) (λ e. n (word-with ∙ e ∙ sym without)) g)
 
 -- where all choices are gone through, the produced order is
 pub opened-more : (bits sets p : ℕ) (words work : Bytes) → Opened p bits sets words work → OpenFrom bits sets words work p 0 → Opened (p + 1) bits sets words work
