@@ -3,23 +3,21 @@ use Prim.Native.Nat.{ℕ, suc, _+_, _*_, _<_, _≤_}
 use native.Mathlib.Nat.{zero-add}
 use native.Mathlib.Numerals.{add-one}
 use native.Mathlib.Omega.{arith}
-use mathlib.Core.Path.{_≡_, sym, _∙_, ap, ap₂, subst}
+use mathlib.Core.Path.{_≡_, sym, _∙_, ap, ap₂}
 use mathlib.Core.Bool.{Bool, false}
-use mathlib.Core.List.{List, [], _∷_, map, map-map, List·Memᴰ}
+use mathlib.Core.List.{List, [], _∷_, map, map-map}
 use lib.ListN.{drop, getD, length-drop, drop-of-length-le}
 use lib.Seq.{drop-cons}
 use Rattle.theory.specs.Tests.{upFrom, bitsOf}
 use Rattle.theory.specs.Settled.{isHeld}
 use Rattle.theory.specs.Construction.{heldUnder}
-use Rattle.theory.specs.Refusals.{passed}
-use Rattle.theory.specs.Query.{Bytes, producedCount, orderCount, orderAt, readQuery, queryRefusal}
+use Rattle.theory.specs.Query.{Bytes, producedCount, orderCount, orderAt, readQuery}
 use Rattle.theory.specs.Table.{bit, number}
 use Rattle.theory.proofs.RowLaws.{number-fits}
 use Rattle.theory.proofs.RangeLaws.{entry-at, entry-count}
 use Rattle.theory.proofs.QueryLaws.{set-count}
-use Rattle.theory.proofs.PassedLaws.{query-passed}
 use Rattle.theory.proofs.ReadLaws.{interesting-read, produced-at}
-use Rattle.settled.specs.Masks.{Narrow, rulesAt}
+use Rattle.settled.specs.Masks.{rulesAt}
 use Rattle.choices.specs.Words.{heldBits}
 
 -- what the bits from i on are, as a number
@@ -44,10 +42,3 @@ held-bits b x p h =
     sym (map-map (λ o. isHeld rs (orderAt b p) o) (orderAt b) (upFrom 0 (orderCount b)))
     ∙ ap (map (λ o. isHeld rs (orderAt b p) o)) (sym (interesting-read b))
     ∙ ap₂ (λ o n. heldUnder (readQuery b) o (bitsOf n x)) (sym (produced-at b p [] h)) (sym (set-count b))
-
--- a mask has room for the columns of each order
-pub order-narrow : (b : Bytes) → queryRefusal b ≡ passed → (i : ℕ) {o : List ℕ} → o ≡ orderAt b i → i < orderCount b → Narrow o
-order-narrow b e i same h c m =
-    let p = query-passed b e in
-    let l = p .order i h .columns .below c (subst (λ k. List·Memᴰ c k) same m) in
-    omega (arith, l, p .sized .few-columns)

@@ -1,5 +1,6 @@
 -- The numbers that the exported functions return.
 use Prim.Native.Nat.{ℕ, _+_, _*_}
+use mathlib.Core.Path.{_≡_}
 use mathlib.Core.List.{List, [], _∷_, _++_}
 use lib.Dec.{eqb}
 use lib.ListN.{length, getD}
@@ -11,7 +12,8 @@ use Rattle.theory.specs.Query.{Bytes}
 use Rattle.theory.specs.Build.{Outcome, refused, built}
 use Rattle.theory.specs.Listing.{listing}
 use Rattle.query_listing.specs.Listed.{answerOf, listRefusal}
-use Rattle.theory.specs.Table.{refuse, setsIn, successorsBase, readRefusal}
+use Rattle.theory.specs.Counterexamples.{Shows}
+use Rattle.theory.specs.Table.{Answer, refuse, setsIn, successorsBase, readRefusal}
 use Rattle.lookup.specs.Answers.{refusalUnit, answerCode}
 
 -- A refusal, or none: its number, with the value 0.
@@ -51,3 +53,9 @@ ruleColumns (equal a b) = a ∷ b ∷ []
 -- A dependency: its set, its kind, then its columns.
 unfoldable pub dependencyCode : Dependency → ℕ
 dependencyCode d = d .set + 256 * kindCode (d .rule) + 65536 * columnsCode (ruleColumns (d .rule))
+
+-- A search for two rows: the answer as a number, with the buffer afterwards. It is 1 where a pair was written and 0 for none.
+pub record ShownCode (query : Bytes) (produced sets order : ℕ) (rows after : Bytes) (code : ℕ) : Type 0 where
+  pub answer : Answer
+  pub shows : Shows query produced sets order rows answer after
+  pub coded : code ≡ answerCode answer

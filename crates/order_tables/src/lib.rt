@@ -1,4 +1,6 @@
-// The functions for C and Rust. A build, a listing, a table check, a trial and a lookup return the refusal's number times 65,536 plus a value, which is 0 on refusal.
+// The functions for C and Rust. A build, a listing, a table check, a trial, a search for two rows and a lookup return the refusal's number times 65,536 plus a value, which is
+// 0 on refusal.
+use counterexample::Found;
 use lookup::Asked;
 use lookup::Mark;
 use lookup::codes;
@@ -22,10 +24,11 @@ ghost use Rattle.theory.specs.Verification.{verifyRefusal};
 ghost use lib.ListN.{length};
 ghost use Rattle.orders.specs.Orders.{orderOf, ruleIs};
 ghost use Rattle.lookup.specs.Answers.{heldOf, refusalUnit, answerCode};
+ghost use Rattle.counterexample.specs.Answers.{answerOf};
 ghost use Rattle.theory.specs.Listing.{listing};
 ghost use Rattle.replay.specs.Replay.{lookupsAfter, Modelled};
 ghost use Rattle.query_listing.specs.Listed.{listRefusal, textAfter};
-ghost use Rattle.order_tables.specs.Codes.{refusedCode, buildCode, listCode, rowCode, columnsCode, orderCode, kindCode, ruleColumns, dependencyCode};
+ghost use Rattle.order_tables.specs.Codes.{refusedCode, buildCode, listCode, rowCode, columnsCode, orderCode, kindCode, ruleColumns, dependencyCode, ShownCode};
 
 // An ask: 1 held, 0 not held, or the refusal.
 fn asked(answer: Asked) -> u32
@@ -157,6 +160,31 @@ pub extern "C" fn order_table_row(table: &[u8], state: u8) -> u32
         return codes::refused(refusal);
     }
     offset(table::produced(table), state as usize, table::sets(table))
+}
+
+// A search for two rows: 1 where they were written, 0 where there are none, or the refusal.
+fn found(answer: Found) -> u32
+    ensures { λ r. ⌜ r ≡ answerCode (answerOf answer) ⌝ }
+{
+    match answer {
+        Found::Pair => 1,
+        Found::None => 0,
+        Found::Refused(n) => codes::refused(n),
+    }
+}
+
+// Show why a sort is needed: 1 where two rows that break the order were written, 0 where there are none.
+#[no_mangle]
+pub extern "C" fn order_query_counterexample(
+    query: &[u8],
+    produced: u8,
+    sets: u8,
+    order: u8,
+    rows: &mut [u8],
+) -> u32
+    ensures { λ r. ⌜ ShownCode (now (query .entry)) produced sets order (now (rows .entry)) (now (rows .exit)) r ⌝ }
+{
+    found(counterexample::find(query, produced, sets, order, rows))
 }
 
 // Checks 1 to 6 of a query.

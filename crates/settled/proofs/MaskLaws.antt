@@ -1,17 +1,21 @@
 -- Masks as sets of columns: the mask of the columns of a list.
 use Prim.Native.Nat.{ℕ, _+_, _^_, _<_}
 use native.Mathlib.Nat.{zero-div}
+use native.Mathlib.Omega.{arith}
 use mathlib.Core.Path.{_≡_, refl, sym, _∙_, subst}
 use mathlib.Core.Bool.{Bool, true, true≢false}
 use mathlib.Core.Logic.{⊎-elim}
-use mathlib.Core.List.{List, [], _∷_, _++_, List·Memᴰ·head, List·Memᴰ·tail, List·Memᴰ·not-nil, List·Memᴰ·eq-of-singleton, List·Memᴰ·append-cases, Memᴰ·append-left, Memᴰ·append-right}
+use mathlib.Core.List.{List, [], _∷_, _++_, List·Memᴰ, List·Memᴰ·head, List·Memᴰ·tail, List·Memᴰ·not-nil, List·Memᴰ·eq-of-singleton, List·Memᴰ·append-cases, Memᴰ·append-left, Memᴰ·append-right}
 use lib.Bits.{bitOr, or-zero-l}
 use lib.ListN.{length, take, getD}
 use Rattle.theory.specs.Tests.{Says, fails, inMask}
+use Rattle.theory.specs.Refusals.{passed}
+use Rattle.theory.specs.Query.{Bytes, orderCount, orderAt, queryRefusal}
 use Rattle.theory.proofs.Reflect.{says-true, true-says, says-by}
 use Rattle.theory.proofs.ListLaws.{member-getD}
 use Rattle.theory.proofs.RowLaws.{all-cons}
 use Rattle.theory.proofs.RangeLaws.{take-more}
+use Rattle.theory.proofs.PassedLaws.{query-passed}
 use Rattle.theory.proofs.BitLaws.{raised-has, raised-keeps, raised-only}
 use Rattle.settled.specs.Masks.{Narrow}
 use Rattle.settled.specs.Parts.{MaskOf}
@@ -45,3 +49,10 @@ narrow-at l i n h = n (getD l i 0) (member-getD l i 0 h)
 pub narrow-swap : (a b : ℕ) → Narrow (a ∷ b ∷ []) → Narrow (b ∷ a ∷ [])
 narrow-swap a b n =
     all-cons {P = λ c. c < 16} (n b (List·Memᴰ·tail (List·Memᴰ·head refl))) (λ c k. n c (List·Memᴰ·head (List·Memᴰ·eq-of-singleton k)))
+
+-- a mask has room for the columns of each order of a query that passes checks 1 to 6
+pub order-narrow : (b : Bytes) → queryRefusal b ≡ passed → (i : ℕ) {o : List ℕ} → o ≡ orderAt b i → i < orderCount b → Narrow o
+order-narrow b e i same h c m =
+    let p = query-passed b e in
+    let l = p .order i h .columns .below c (subst (λ k. List·Memᴰ c k) same m) in
+    omega (arith, l, p .sized .few-columns)

@@ -2,21 +2,29 @@
 use Prim.Native.Nat.{ℕ, zero, suc, _+_, _-_, _^_, _<_, _≤_}
 use native.Mathlib.Numerals.{add-one}
 use native.Mathlib.Omega.{arith}
-use mathlib.Core.Path.{_≡_, refl, sym, _∙_, ap, subst}
-use mathlib.Core.Bool.{Bool, true, false, true≢false, false≢true}
+use mathlib.Core.Path.{_≡_, refl, sym, _∙_, ap, ap₂, subst, subst₂}
+use mathlib.Core.Bool.{Bool, true, false, not, true≢false, false≢true}
 use mathlib.Core.Logic.{⊎-elim}
-use mathlib.Core.List.{List, [], _∷_, _++_, map-append, List·Memᴰ·not-nil, List·Memᴰ·append-cases, List·Memᴰ·eq-of-singleton, Memᴰ·append-left, Memᴰ·append-right, List·Memᴰ·head}
+use mathlib.Core.List.{List, [], _∷_, _++_, map, map-append, map-map, List·Memᴰ·not-nil, List·Memᴰ·append-cases, List·Memᴰ·eq-of-singleton, Memᴰ·append-left, Memᴰ·append-right, List·Memᴰ·head}
 use lib.Bits.{bitOr}
 use lib.Dec.{eqb}
+use lib.IntN.{pos}
 use lib.ListN.{length, take, drop, getD, drop-of-length-le}
 use lib.Seq.{take-suc, drop-cons}
-use Rattle.theory.specs.Tests.{pick, Says, holds, fails, member, inMask}
+use Rattle.theory.specs.Tests.{pick, Says, holds, fails, those, member, upFrom, inMask}
 use Rattle.theory.specs.Orders.{Order, Rule, column, columns}
-use Rattle.theory.specs.Settled.{Settled, among, settledColumns, alike, fromUnsettled, entryHeld, heldBehind, isHeld}
+use Rattle.theory.specs.Rows.{Counterexample}
+use Rattle.theory.specs.Settled.{Settled, among, settledColumns, settled, isEqual, alike, fromUnsettled, entryHeld, heldBehind, isHeld}
 use Rattle.theory.proofs.Reflect.{says-true, true-says, says-one, says-ltb}
+use Rattle.theory.proofs.Picks.{pick-yes}
 use Rattle.theory.proofs.BitLaws.{raised-has, raised-keeps, raised-only}
+use Rattle.theory.proofs.RangeLaws.{map-below}
 use Rattle.theory.proofs.SettledLaws.{settled-through, says-settled}
+use Rattle.theory.proofs.CounterexampleLaws.{Past, past-none, past-more, past-both, past-front, past-met, value, row, stop-at, stop-pair}
+use Rattle.settled.specs.declared.Tested.{Tested}
+use Rattle.settled.specs.declared.Tested.the-variants as tested
 use Rattle.settled.specs.Masks.{StandFor, SettledMask, ClassesOf}
+use Rattle.settled.specs.Ends.{valueIn, rowBy, Ends}
 use Rattle.settled.specs.Parts.{Skipped, meets, Closes}
 use Rattle.settled.proofs.MaskLaws.{says-both, mask-none}
 
@@ -65,6 +73,25 @@ module _ {rs : List Rule} {w : List ℕ} (m : ℕ) (s : SettledMask rs w m) wher
       rw (drop-cons l i 0 (omega (arith, k .within)))
       (ap (byFirst (getD l i 0) (drop (suc i) l)) (mask-tells (getD l i 0) ∙ k .passed i (omega arith) (omega arith)) ∙ left-from l to n (suc i) (omega arith) (skipped-next k (omega arith)))
 
+-- the rows of two masks that tell what is settled and what is alike
+module _ (n : ℕ) (rs : List Rule) (w : List ℕ) (c settled′ class : ℕ) (tells : (d : ℕ) → inMask settled′ d ≡ settled rs w d) (classed : (d : ℕ) → inMask class d ≡ alike rs c d) where
+  value-one : (s b : Bool) → pos (valueIn true s b) ≡ value s b
+  value-one true b = refl
+  value-one false true = refl
+  value-one false false = refl
+
+  value-two : (s b : Bool) → pos (valueIn false s b) ≡ value s (not b)
+  value-two true b = refl
+  value-two false true = refl
+  value-two false false = refl
+
+  rows-masks : {p o : Order} → Counterexample n rs p o (row n rs w (alike rs c)) (row n rs w (λ d. not (alike rs c d)))
+      → Counterexample n rs p o (map pos (rowBy true settled′ class n)) (map pos (rowBy false settled′ class n))
+  rows-masks {p} {o} =
+      subst₂ (Counterexample n rs p o)
+      (map-below _ _ (pos 0) n (λ d h. sym (value-one (inMask settled′ d) (inMask class d) ∙ ap₂ value (tells d) (classed d))) ∙ sym (map-map pos (λ d. valueIn true (inMask settled′ d) (inMask class d)) (upFrom 0 n)))
+      (map-below _ _ (pos 0) n (λ d h. sym (value-two (inMask settled′ d) (inMask class d) ∙ ap₂ (λ s b. value s (not b)) (tells d) (classed d))) ∙ sym (map-map pos (λ d. valueIn false (inMask settled′ d) (inMask class d)) (upFrom 0 n)))
+
 module _ (rs : List Rule) (s : List ℕ) (r : Order) (e : ℕ) (goOn : Order → Bool) where
   -- the test of an entry by what is compared: whether the two columns are alike, what is left from the first unsettled entry on, and whether the entry is settled
   abbrev byClass : Order → Bool → Bool
@@ -88,16 +115,26 @@ module _ (rs : List Rule) (s : List ℕ) (r : Order) (e : ℕ) (goOn : Order →
     entry-met : (x : ℕ) (rest : Order) (b : Bool) → fromUnsettled s r ≡ x ∷ rest → alike rs (column e) (column x) ≡ b → entryHeld rs s r e goOn ≡ byClass rest b
     entry-met x rest b k a = ap byMask h ∙ ap byRest k ∙ ap (byClass rest) a
 
--- The test is at place i of the order o and place j of the produced order p, and the mask m has what the first i columns of o settle.
+-- where an entry is met there is one
+pub meets-there : (classes : List ℕ) (c : ℕ) (l : List ℕ) (i : ℕ) → true ≡ meets classes c l i → i < length l
+meets-there classes c l i = go (says-ltb i (length l))
+  where
+    go : {b : Bool} → Says (i < length l) b → true ≡ pick b (inMask (getD classes c 0) (getD l i 0)) false → i < length l
+    go (holds h) e = h
+    go (fails h) e = absurd (true≢false e)
+
+-- The test is at place i of the order o and place j of the produced order p, the mask m has what the first i columns of o settle, and rows alike in these columns compare
+-- along p as they do along what is left of it.
 pub record Testing (rs : List Rule) (p o : Order) (i j m : ℕ) : Type 0 where
   pub mask : SettledMask rs (columns (take i o)) m
   pub rest : isHeld rs p o ≡ heldBehind rs (columns (take i o)) (drop j p) (drop i o)
+  pub past : Past rs (columns (take i o)) p (drop j p)
 
 module _ (rs : List Rule) (p o : Order) where
   -- the test begins at the first entries, with what no columns settle
   testing-begins : (m : ℕ) → SettledMask rs [] m → Testing rs p o 0 0 m
   unfolding isHeld
-  testing-begins m s = record { mask = s; rest = refl }
+  testing-begins m s = record { mask = s; rest = refl; past = past-none rs [] p }
 
   -- what the test does at place i
   at-entry : (i : ℕ) (r : Order) → i < length o
@@ -114,25 +151,47 @@ module _ (rs : List Rule) (p o : Order) where
         record {
           mask = rw (columns-more o i h) (mask-stays m (t .mask) (getD o i 0) k);
           rest = t .rest ∙ at-entry i (drop j p) h ∙ entry-settled rs (settledColumns rs (columns (take i o))) (drop j p) (getD o i 0) _ (mask-tells m (t .mask) (getD o i 0) ∙ k);
+          past = rw (columns-more o i h) (past-more rs (λ d n. Memᴰ·append-left (getD o i 0 ∷ []) n) (t .past));
         }
 
     -- an entry that is not settled uses up the first of what is left that is not, at place k, if the two are alike
     module _ (h : i < length o) (unsettled : inMask m (getD o i 0) ≡ false) (narrow : getD o i 0 < 16) {k : ℕ} (skipped : Skipped m p j k) (classes : List ℕ) (classed : ClassesOf rs classes) where
+      left : fromUnsettled (settledColumns rs (columns (take i o))) (drop j p) ≡ drop k p
+      left = left-from m (t .mask) p k (k - j) j (omega (arith, skipped .forth)) skipped
+
+      entry-meets : (goOn : Order → Bool) (b : Bool) → meets classes (getD o i 0) p k ≡ b
+          → entryHeld rs (settledColumns rs (columns (take i o))) (drop j p) (getD o i 0) goOn ≡ pick b (goOn (drop (suc k) p)) false
+      entry-meets goOn b e = go (settledColumns rs (columns (take i o))) (mask-tells m (t .mask) (getD o i 0) ∙ unsettled) left (says-ltb k (length p)) b e
+        where
+          go : (s : List ℕ) → member eqb (getD o i 0) s ≡ false → fromUnsettled s (drop j p) ≡ drop k p → {l : Bool} → Says (k < length p) l
+              → (b : Bool) → pick l (inMask (getD classes (getD o i 0) 0) (getD p k 0)) false ≡ b → entryHeld rs s (drop j p) (getD o i 0) goOn ≡ pick b (goOn (drop (suc k) p)) false
+          go s u f (holds l) true e =
+              entry-met rs s (drop j p) (getD o i 0) goOn u (getD p k 0) (drop (suc k) p) true (f ∙ drop-cons p k 0 l) (sym (classed (getD o i 0) (getD p k 0) narrow) ∙ e)
+          go s u f (holds l) false e =
+              entry-met rs s (drop j p) (getD o i 0) goOn u (getD p k 0) (drop (suc k) p) false (f ∙ drop-cons p k 0 l) (sym (classed (getD o i 0) (getD p k 0) narrow) ∙ e)
+          go s u f (fails l) true e = absurd (false≢true e)
+          go s u f (fails l) false e = entry-missed rs s (drop j p) (getD o i 0) goOn u (f ∙ drop-of-length-le p {i = k} (omega arith))
+
       testing-meets : (b : Bool) → meets classes (getD o i 0) p k ≡ b
           → isHeld rs p o ≡ pick b (heldBehind rs (columns (take (suc i) o)) (drop (suc k) p) (drop (suc i) o)) false
-      testing-meets b e =
-          t .rest ∙ at-entry i (drop j p) h
-          ∙ go (settledColumns rs (columns (take i o))) (λ rest. heldBehind rs (columns (take (suc i) o)) rest (drop (suc i) o))
-          (mask-tells m (t .mask) (getD o i 0) ∙ unsettled) (left-from m (t .mask) p k (k - j) j (omega (arith, skipped .forth)) skipped) (says-ltb k (length p)) b e
-        where
-          go : (s : List ℕ) (goOn : Order → Bool) → member eqb (getD o i 0) s ≡ false → fromUnsettled s (drop j p) ≡ drop k p → {l : Bool} → Says (k < length p) l
-              → (b : Bool) → pick l (inMask (getD classes (getD o i 0) 0) (getD p k 0)) false ≡ b → entryHeld rs s (drop j p) (getD o i 0) goOn ≡ pick b (goOn (drop (suc k) p)) false
-          go s goOn u f (holds l) true e =
-              entry-met rs s (drop j p) (getD o i 0) goOn u (getD p k 0) (drop (suc k) p) true (f ∙ drop-cons p k 0 l) (sym (classed (getD o i 0) (getD p k 0) narrow) ∙ e)
-          go s goOn u f (holds l) false e =
-              entry-met rs s (drop j p) (getD o i 0) goOn u (getD p k 0) (drop (suc k) p) false (f ∙ drop-cons p k 0 l) (sym (classed (getD o i 0) (getD p k 0) narrow) ∙ e)
-          go s goOn u f (fails l) true e = absurd (false≢true e)
-          go s goOn u f (fails l) false e = entry-missed rs s (drop j p) (getD o i 0) goOn u (f ∙ drop-of-length-le p {i = k} (omega arith))
+      testing-meets b e = t .rest ∙ at-entry i (drop j p) h ∙ entry-meets (λ rest. heldBehind rs (columns (take (suc i) o)) rest (drop (suc i) o)) b e
+
+      -- what is left behind the entry that is used up
+      past-meets : k < length p → meets classes (getD o i 0) p k ≡ true → Past rs (columns (take (suc i) o)) p (drop (suc k) p)
+      past-meets l e =
+          rw (columns-more o i h)
+          (past-met rs (getD o i 0) (getD p k 0) (drop (suc k) p)
+          (past-both rs (t .past) (subst (Past rs (columns (take i o)) (drop j p)) (left ∙ drop-cons p k 0 l) (past-front rs (columns (take i o)) (drop j p) .0)))
+          (says-true (says-settled (those isEqual rs) (getD o i 0 ∷ []) (getD p k 0)) (sym (classed (getD o i 0) (getD p k 0) narrow) ∙ pick-yes false (true-says (says-ltb k (length p)) l) refl ∙ e)))
+
+      -- where it is not met the two rows by the masks show that o is not held
+      testing-fails : meets classes (getD o i 0) p k ≡ false → Ends rs p o (tested.Stopped m (getD classes (getD o i 0) 0))
+      testing-fails e = (
+        testing-meets false e,
+        λ n pn on small.
+            rows-masks n rs (columns (take i o)) (getD o i 0) m (getD classes (getD o i 0) 0) (λ d. sym (mask-tells m (t .mask) d)) (λ d. classed (getD o i 0) d narrow)
+            (stop-pair n rs p o pn on small (columns (take i o)) (getD o i 0) (stop-at rs p (drop j p) o i h (t .past) (entry-meets (λ rest. true) false e))),
+      )
 
   -- several are
   testing-skips : {j m : ℕ} (to n i : ℕ) → n + i ≡ to → Testing rs p o i j m → Skipped m o i to → Testing rs p o to j m
@@ -144,9 +203,9 @@ module _ (rs : List Rule) (p o : Order) where
 abbrev pub Midway : List ℕ → List ℕ → ℕ → List ℕ → Order → Order → ℕ → ℕ → ℕ → Type 0
 Midway left right n classes p o i j m = (rs : List Rule) → StandFor rs left right n → ClassesOf rs classes → Testing rs p o i j m
 
--- What the test says is b, under all these rules.
-abbrev pub Said : List ℕ → List ℕ → ℕ → List ℕ → Order → Order → Bool → Type 0
-Said left right n classes p o b = (rs : List Rule) → StandFor rs left right n → ClassesOf rs classes → b ≡ isHeld rs p o
+-- The test ends so, under all these rules.
+abbrev pub Ended : List ℕ → List ℕ → ℕ → List ℕ → Order → Order → Tested → Type 0
+Ended left right n classes p o r = (rs : List Rule) → StandFor rs left right n → ClassesOf rs classes → Ends rs p o r
 
 module _ (left right : List ℕ) (n : ℕ) (classes : List ℕ) (p o : Order) where
   -- the test begins, behind the entries that no columns settle
@@ -157,19 +216,19 @@ module _ (left right : List ℕ) (n : ℕ) (classes : List ℕ) (p o : Order) wh
 
   module _ (i j m : ℕ) (t : Midway left right n classes p o i j m) where
     -- no entry is left
-    pub midway-end : length o ≤ i → Said left right n classes p o true
-    midway-end h rs f cs = sym (t rs f cs .rest ∙ ap (heldBehind rs (columns (take i o)) (drop j p)) (drop-of-length-le o {i = i} h))
+    pub midway-end : length o ≤ i → Ended left right n classes p o tested.Held
+    midway-end h rs f cs = t rs f cs .rest ∙ ap (heldBehind rs (columns (take i o)) (drop j p)) (drop-of-length-le o {i = i} h)
 
     module _ (h : i < length o) (unsettled : inMask m (getD o i 0) ≡ false) (narrow : getD o i 0 < 16) (k : ℕ) (skipped : Skipped m p j k) where
       -- an entry is not met
-      pub midway-fails : false ≡ meets classes (getD o i 0) p k → Said left right n classes p o false
-      midway-fails e rs f cs = sym (testing-meets rs p o (t rs f cs) h unsettled narrow skipped classes cs false (sym e))
+      pub midway-fails : false ≡ meets classes (getD o i 0) p k → Ended left right n classes p o (tested.Stopped m (getD classes (getD o i 0) 0))
+      midway-fails e rs f cs = testing-fails rs p o (t rs f cs) h unsettled narrow skipped classes cs (sym e)
 
       module _ (e : true ≡ meets classes (getD o i 0) p k) where
         -- the last entry is met
-        pub midway-last : i + 1 ≡ length o → Said left right n classes p o true
+        pub midway-last : i + 1 ≡ length o → Ended left right n classes p o tested.Held
         midway-last last rs f cs =
-            sym (testing-meets rs p o (t rs f cs) h unsettled narrow skipped classes cs true (sym e) ∙ ap (heldBehind rs (columns (take (suc i) o)) (drop (suc k) p)) (drop-of-length-le o {i = suc i} (omega arith)))
+            testing-meets rs p o (t rs f cs) h unsettled narrow skipped classes cs true (sym e) ∙ ap (heldBehind rs (columns (take (suc i) o)) (drop (suc k) p)) (drop-of-length-le o {i = suc i} (omega arith))
 
         -- an entry is met and others follow, of which those that are settled now are passed over
         pub midway-next : (r to : ℕ) → Closes left right n (bitOr m (2 ^ getD o i 0)) r → Skipped r o (i + 1) to → Midway left right n classes p o to (k + 1) r
@@ -178,13 +237,6 @@ module _ (left right : List ℕ) (n : ℕ) (classes : List ℕ) (p o : Order) wh
             record {
               mask = rw (columns-more o i h) (mask-grows m (t rs f cs .mask) (getD o i 0) r f closes);
               rest = testing-meets rs p o (t rs f cs) h unsettled narrow skipped classes cs true (sym e);
+              past = past-meets rs p o (t rs f cs) h unsettled narrow skipped classes cs (meets-there classes (getD o i 0) p k e) (sym e);
             } in
             rw (add-one k) (testing-skips rs p o to (to - suc i) (suc i) (omega (arith, s .forth)) met (rw (add-one i) at s))
-
--- where an entry is met there is one
-pub meets-there : (classes : List ℕ) (c : ℕ) (l : List ℕ) (i : ℕ) → true ≡ meets classes c l i → i < length l
-meets-there classes c l i = go (says-ltb i (length l))
-  where
-    go : {b : Bool} → Says (i < length l) b → true ≡ pick b (inMask (getD classes c 0) (getD l i 0)) false → i < length l
-    go (holds h) e = h
-    go (fails h) e = absurd (true≢false e)

@@ -3,3 +3,12 @@ mod close;
 mod masks;
 pub mod pairs;
 pub mod test;
+
+pub use masks::has;
+
+// How the test ends: the order is held, or the test stops at an entry. Then it hands out the mask of the columns that the entries before settle and that of the entry's
+// class.
+pub enum Tested {
+    Held,
+    Stopped { settled: u16, class: u16 },
+}

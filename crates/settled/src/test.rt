@@ -1,4 +1,5 @@
 // The closure test. It reads the pairs and classes alone, no query, and closes a mask at the start and once for each entry that is used up but the last.
+use crate::Tested;
 use crate::close;
 use crate::masks;
 use orders::Order;
@@ -10,6 +11,7 @@ ghost use Rattle.theory.specs.Orders.{Rule};
 ghost use Rattle.theory.specs.Settled.{isHeld};
 ghost use Rattle.orders.specs.Orders.{orderOf};
 ghost use Rattle.settled.specs.Masks.{Narrow, StandFor, ClassesOf};
+ghost use Rattle.settled.specs.Ends.{Ends};
 ghost use Rattle.settled.specs.Parts.{Skipped, meets};
 
 // The first place from one on where the order has a column that the mask does not have; the length where there is none.
@@ -40,11 +42,11 @@ fn meets(classes: &[u16], c: u8, p: Order, at: usize) -> bool
     }
 }
 
-// Whether order o is held from the produced order p. An entry of o that is settled by those before it is passed over; any other uses up the first entry of what is left
-// of p that is not settled, which has to be alike.
-pub fn held(left: &[u16], right: &[u16], n: usize, classes: &[u16], p: Order, o: Order) -> bool
+// The test of order o against the produced order p. An entry of o that is settled by those before it is passed over; any other uses up the first entry of what is left of p
+// that is not settled, which has to be alike.
+pub fn test(left: &[u16], right: &[u16], n: usize, classes: &[u16], p: Order, o: Order) -> Tested
     requires { ⌜ (n ≤ length (now left)) × (n ≤ length (now right)) × (length (now classes) ≡ 16) × Narrow (orderOf p) × Narrow (orderOf o) ⌝ }
-    ensures { λ r. ⌜ ((rs : List Rule) → StandFor rs (now (left .entry)) (now (right .entry)) n → ClassesOf rs (now (classes .entry)) → r ≡ isHeld rs (orderOf p) (orderOf o)) ⌝ }
+    ensures { λ r. ⌜ ((rs : List Rule) → StandFor rs (now (left .entry)) (now (right .entry)) n → ClassesOf rs (now (classes .entry)) → Ends rs (orderOf p) (orderOf o) r) ⌝ }
 {
     let m = orders::length(o);
     let mut mask = close::close(left, right, n, 0);
@@ -54,14 +56,28 @@ pub fn held(left: &[u16], right: &[u16], n: usize, classes: &[u16], p: Order, o:
         let c = orders::column(o, i);
         j = unsettled(p, j, mask);
         if !meets(classes, c, p, j) {
-            return false;
+            return Tested::Stopped {
+                settled: mask,
+                class: classes[c as usize],
+            };
         }
         if i + 1 == m {
-            return true;
+            return Tested::Held;
         }
         mask = close::close(left, right, n, mask | masks::bit(c));
         i = unsettled(o, i + 1, mask);
         j += 1;
     }
-    true
+    Tested::Held
+}
+
+// Whether order o is held from the produced order p.
+pub fn held(left: &[u16], right: &[u16], n: usize, classes: &[u16], p: Order, o: Order) -> bool
+    requires { ⌜ (n ≤ length (now left)) × (n ≤ length (now right)) × (length (now classes) ≡ 16) × Narrow (orderOf p) × Narrow (orderOf o) ⌝ }
+    ensures { λ r. ⌜ ((rs : List Rule) → StandFor rs (now (left .entry)) (now (right .entry)) n → ClassesOf rs (now (classes .entry)) → r ≡ isHeld rs (orderOf p) (orderOf o)) ⌝ }
+{
+    match test(left, right, n, classes, p, o) {
+        Tested::Held => true,
+        Tested::Stopped { settled, class } => false,
+    }
 }

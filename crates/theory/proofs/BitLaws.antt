@@ -1,7 +1,7 @@
 -- The bits of numbers: of two numbers together, of a number with one bit more, and of two that make up all bits. A number's bits are a set of numbers, as
 -- `inMask` reads it.
 use Prim.Native.Nat.{ℕ, zero, suc, _+_, _-_, _/_, _%_, _^_, _<_, _≤_, max}
-use native.Mathlib.Nat.{div-eq-of-lt, div-self, div-one, div-div-eq-div-mul, mul-div-cancel, pow-succ', pow-le-pow-right, zero-lt-suc, lt-of-lt-of-le, le-of-suc-le-suc, not-suc-le-zero}
+use native.Mathlib.Nat.{zero-div, div-eq-of-lt, div-self, div-one, div-div-eq-div-mul, mul-div-cancel, pow-succ', pow-le-pow-right, zero-lt-suc, lt-of-lt-of-le, le-of-suc-le-suc, not-suc-le-zero}
 use native.Mathlib.Omega.{arith}
 use mathlib.Core.Path.{_≡_, refl, sym, _∙_, ap, subst}
 use mathlib.Core.Bool.{Bool, true, not}
@@ -114,6 +114,13 @@ bit-low n x c h e = go (says-ltb c n)
     go (fails f) =
         let none : x / 2 ^ c ≡ 0 = div-eq-of-lt (lt-of-lt-of-le h (pow-le-pow-right (zero-lt-suc 1) (omega arith))) in
         absurd (omega (arith, eqb-true (x / 2 ^ c % 2) 1 e))
+
+-- and a number that has no bit from n on is below that power of two
+pub low-bits : (n x : ℕ) → ((c : ℕ) → inMask x c ≡ true → c < n) → x < 2 ^ n
+low-bits zero x h =
+    let none : x ≡ 0 = inside-both x 0 (λ c e. absurd (not-suc-le-zero (h c e))) (λ c e. absurd (omega (arith, zero-div (2 ^ c), eqb-true (0 / 2 ^ c % 2) 1 e))) in
+    omega arith
+low-bits (suc n) x h = omega (arith, pow-succ' 2 n, low-bits n (x / 2) (λ c e. le-of-suc-le-suc (h (suc c) (sym (half-bit x c) ∙ e))))
 
 -- of two numbers that make up all n bits, each has the bits that the other has not
 pub opposite : (n x y c : ℕ) → c < n → suc (x + y) ≡ 2 ^ n → inMask x c ≡ not (inMask y c)

@@ -51,7 +51,7 @@ pub rules-taken : (q : Query) (ss : List ℕ) → AllBelow (q .sets) ss → rule
 rules-taken q ss b = rules-same (inForce (withSets (noSets (q .sets)) ss)) _ (q .dependencies) (λ d m. taken-force (q .sets) ss b (d .set))
 
 module _ (q : Query) (formed : WellFormed q) where
-  rules-below : (ss : List ℕ) → RulesBelow (q .columns) (rulesOf q ss)
+  pub rules-below : (ss : List ℕ) → RulesBelow (q .columns) (rulesOf q ss)
   rules-below ss r m =
       let t = rules-from (λ s. member eqb s ss) (q .dependencies) m in
       formed .rules r (subst (λ x. List·Memᴰ x (map (λ (d : Dependency). d .rule) (q .dependencies))) (sym (t .3)) (Memᴰ·map (λ (d : Dependency). d .rule) (t .1)))

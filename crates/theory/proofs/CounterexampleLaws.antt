@@ -2,19 +2,20 @@
 -- order is not alike to it, or none is left. Two rows alike in the settled columns alone, the one higher in the entry's class and the other everywhere else, stand in the
 -- produced order, obey the rules, and do not stand in the order looked for.
 use Prim.Native.Nat.{ℕ, zero, suc, _<_}
+use native.Mathlib.Nat.{le-of-suc-le-suc}
 use native.Mathlib.Omega.{arith}
 use mathlib.Core.Path.{_≡_, refl, sym, _∙_, ap, ap₂, subst}
 use mathlib.Core.Bool.{Bool, true, false, not, true≢false}
 use mathlib.Core.Logic.{_⊎_, inl, inr, ⊎-elim}
-use mathlib.Core.List.{List, [], _∷_, _++_, map, List·Memᴰ, List·Memᴰ·head, List·Memᴰ·tail, List·Memᴰ·not-nil, List·Memᴰ·eq-of-singleton, Memᴰ·append-left, Memᴰ·append-right, Memᴰ·of-map}
+use mathlib.Core.List.{List, [], _∷_, _++_, map, List·Memᴰ, List·Memᴰ·head, List·Memᴰ·tail, List·Memᴰ·not-nil, List·Memᴰ·eq-of-singleton, Memᴰ·append-left, Memᴰ·append-right, Memᴰ·map, Memᴰ·of-map}
 use lib.IntN.{ℤ, pos}
-use lib.ListN.{List·getD-eq-default}
+use lib.ListN.{length, take, getD, List·getD-eq-default}
 use Rattle.theory.specs.Tests.{pick, Says, holds, fails, those, upFrom}
 use Rattle.theory.specs.Orders.{Order, column, columns, Rule, fix, equal, RulesBelow}
-use Rattle.theory.specs.Rows.{Less, Row, cell, Below, Stands, ObeysAll, Counterexample}
+use Rattle.theory.specs.Rows.{Less, Row, cell, Below, Stands, ObeysAll, Counterexample, Broken}
 use Rattle.theory.specs.Settled.{Settled, among, fixed, equalled, settledColumns, settled, isEqual, alike, fromUnsettled, entryHeld, heldBehind, isHeld}
 use Rattle.theory.proofs.Reflect.{true-says, false-says, says-one, says-as, says-ltb}
-use Rattle.theory.proofs.ListLaws.{Within}
+use Rattle.theory.proofs.ListLaws.{Within, member-getD}
 use Rattle.theory.proofs.RowLaws.{all-cons}
 use Rattle.theory.proofs.RangeLaws.{entry-of, entry-count}
 use Rattle.theory.proofs.RowTheorem.{less-irrefl, column-skip}
@@ -26,32 +27,32 @@ Above x y d = ¬ (Less (cell x d) (cell y d) ⊎ (cell x d ≡ cell y d))
 
 module _ (rs : List Rule) where
   -- the rows are alike in each column that w settles
-  abbrev Agree : List ℕ → Row → Row → Type 0
+  abbrev pub Agree : List ℕ → Row → Row → Type 0
   Agree w x y = (d : ℕ) → Settled rs w d → cell x d ≡ cell y d
 
   -- such rows compare along r as they do along rest, a part of it
-  record Past (w : List ℕ) (r rest : Order) : Type 0 where
-    part : Within (columns rest) (columns r)
-    skip : (x y : Row) → Agree w x y → Below x y r → Below x y rest
+  pub record Past (w : List ℕ) (r rest : Order) : Type 0 where
+    pub part : Within (columns rest) (columns r)
+    pub skip : (x y : Row) → Agree w x y → Below x y r → Below x y rest
 
-  past-none : (w : List ℕ) (r : Order) → Past w r r
+  pub past-none : (w : List ℕ) (r : Order) → Past w r r
   past-none w r = record { part = λ d m. m; skip = λ x y a b. b }
 
   past-one : {w : List ℕ} (e : ℕ) (r : Order) → Settled rs w (column e) → Past w (e ∷ r) r
   past-one e r t = record { part = λ d m. List·Memᴰ·tail m; skip = λ x y a b. column-skip (a (column e) t) b }
 
-  past-both : {w : List ℕ} {r s t : Order} → Past w r s → Past w s t → Past w r t
+  pub past-both : {w : List ℕ} {r s t : Order} → Past w r s → Past w s t → Past w r t
   past-both p q = record { part = λ d m. p .part d (q .part d m); skip = λ x y a b. q .skip x y a (p .skip x y a b) }
 
-  past-more : {w v : List ℕ} {r s : Order} → Within w v → Past w r s → Past v r s
+  pub past-more : {w v : List ℕ} {r s : Order} → Within w v → Past w r s → Past v r s
   past-more h p = record { part = p .part; skip = λ x y a b. p .skip x y (λ d t. a d (settled-through (λ c m. among (h c m)) t)) b }
 
   -- the first entry, where there is one, is unsettled
-  abbrev Open : List ℕ → Order → Type 0
+  abbrev pub Open : List ℕ → Order → Type 0
   Open w [] = Unit {0}
   Open w (e ∷ r) = ¬ Settled rs w (column e)
 
-  past-front : (w : List ℕ) (r : Order) → Past w r (fromUnsettled (settledColumns rs w) r) × Open w (fromUnsettled (settledColumns rs w) r)
+  pub past-front : (w : List ℕ) (r : Order) → Past w r (fromUnsettled (settledColumns rs w) r) × Open w (fromUnsettled (settledColumns rs w) r)
   past-front w [] = (past-none w [], tt)
   past-front w (e ∷ r) = go (says-settled rs w (column e)) (past-front w r)
     where
@@ -65,8 +66,13 @@ module _ (rs : List Rule) where
   alike-settled {w} t s =
       settled-through (λ b m. subst (Settled rs w) (sym (List·Memᴰ·eq-of-singleton m)) t) (settled-more (λ x m. member-those isEqual rs m .0) s)
 
+  -- the first entry of what is left is used up by an entry with column c, to which it is alike
+  pub past-met : {w : List ℕ} {p : Order} (c x : ℕ) (rest : Order) → Past w p (x ∷ rest) → Settled (those isEqual rs) (c ∷ []) (column x) → Past (w ++ (c ∷ [])) p rest
+  past-met {w} c x rest p s =
+      past-both (past-more (λ d m. Memᴰ·append-left (c ∷ []) m) p) (past-one x rest (alike-settled (among (Memᴰ·append-right w (List·Memᴰ·head refl))) s))
+
   -- the test stops at column c: rows that agree do not compare below along r where the first is above in each column that is neither settled nor of c's class
-  abbrev Stuck : List ℕ → ℕ → Order → Type 0
+  abbrev pub Stuck : List ℕ → ℕ → Order → Type 0
   Stuck w c r = (x y : Row) → Agree w x y → ((d : ℕ) → List·Memᴰ d (columns r) → ¬ Settled rs w d → ¬ Settled (those isEqual rs) (c ∷ []) d → Above x y d) → ¬ Below x y r
 
   past-stuck : {w : List ℕ} {c : ℕ} {r rest : Order} → Past w r rest → Stuck w c rest → Stuck w c r
@@ -82,10 +88,7 @@ module _ (rs : List Rule) where
     where
       atClass : ¬ Settled rs w (column e) → {x : ℕ} {rest : Order} → Past w r (x ∷ rest) → ¬ Settled rs w (column x)
           → {b : Bool} → Says (Settled (those isEqual rs) (column e ∷ []) (column x)) b → elim b [ true ↦ goOn rest | false ↦ false ] ≡ false → Unheld w r (column e) goOn
-      atClass f {x} {rest} p g (holds s) k =
-          later rest k
-          (past-both (past-more (λ d m. Memᴰ·append-left (column e ∷ []) m) p)
-          (past-one x rest (alike-settled (among (Memᴰ·append-right w (List·Memᴰ·head refl))) s)))
+      atClass f {x} {rest} p g (holds s) k = later rest k (past-met (column e) x rest p s)
       atClass f {x} {rest} p g (fails s) k =
           stops f (past-stuck p (λ u v a h b. h (column x) (List·Memᴰ·head refl) g s (⊎-elim inl (λ t. inr (t .0)) b)))
 
@@ -102,38 +105,63 @@ module _ (rs : List Rule) where
       atEntry (holds t) k = later r k (past-none (w ++ (column e ∷ [])) r)
       atEntry (fails f) k = atFront f (fromUnsettled (settledColumns rs w) r) (past-front w r) k
 
-  -- where the test stops: the columns of the entries before, and the entry's column, by which alone rows compare along o that agree before it
-  record Stop (w : List ℕ) (r o : Order) : Type 0 where
-    done : List ℕ
-    at : ℕ
-    behind : Within w done
-    unsettled : ¬ Settled rs done at
-    named : List·Memᴰ at (columns o)
-    below : (x y : Row) → Agree done x y → Less (cell x at) (cell y at) → Below x y o
-    stuck : Stuck done at r
+  -- the test stops behind entries with the columns w, at column c, which is unsettled: rows that agree before it and compare below in it compare so along o
+  pub record Stop (w : List ℕ) (c : ℕ) (r o : Order) : Type 0 where
+    pub unsettled : ¬ Settled rs w c
+    pub named : List·Memᴰ c (columns o)
+    pub below : (x y : Row) → Agree w x y → Less (cell x c) (cell y c) → Below x y o
+    pub stuck : Stuck w c r
 
-  stop : (w : List ℕ) (r o : Order) → heldBehind rs w r o ≡ false → Stop w r o
+  -- rows that agree in the columns of the first entries compare by the next one
+  below-at : (o : Order) (i : ℕ) → i < length o → (x y : Row) → ((d : ℕ) → List·Memᴰ d (columns (take i o)) → cell x d ≡ cell y d)
+      → Less (cell x (column (getD o i 0))) (cell y (column (getD o i 0))) → Below x y o
+  below-at [] i h x y a l = let z : ⊥ = omega arith in absurd z
+  below-at (e ∷ o) zero h x y a l = inl l
+  below-at (e ∷ o) (suc i) h x y a l = inr (a (column e) (List·Memᴰ·head refl), below-at o i (le-of-suc-le-suc h) x y (λ d m. a d (List·Memᴰ·tail m)) l)
+
+  -- the test stops at entry i of o, where it is not held whatever follows it
+  pub stop-at : (p r o : Order) (i : ℕ) → i < length o → Past (columns (take i o)) p r
+      → entryHeld rs (settledColumns rs (columns (take i o))) r (getD o i 0) (λ rest. true) ≡ false → Stop (columns (take i o)) (column (getD o i 0)) p o
+  stop-at p r o i h past k = go (entry-unheld (columns (take i o)) r (getD o i 0) (λ rest. true) k)
+    where
+      go : Unheld (columns (take i o)) r (column (getD o i 0)) (λ rest. true) → Stop (columns (take i o)) (column (getD o i 0)) p o
+      go (later rest q t) = absurd (true≢false q)
+      go (stops f s) =
+          record {
+            unsettled = f;
+            named = Memᴰ·map column (member-getD o i 0 h);
+            below = λ x y a. below-at o i h x y (λ d m. a d (among m));
+            stuck = past-stuck past s;
+          }
+
+  -- it stops somewhere behind w
+  abbrev Stops : List ℕ → Order → Order → Type 0
+  Stops w r o = (v : List ℕ) × (c : ℕ) × Within w v × Stop v c r o
+
+  stop : (w : List ℕ) (r o : Order) → heldBehind rs w r o ≡ false → Stops w r o
   stop w r [] k = absurd (true≢false k)
   stop w r (e ∷ o) k = go (λ rest. stop (w ++ (column e ∷ [])) rest o) (entry-unheld w r e (λ rest. heldBehind rs (w ++ (column e ∷ [])) rest o) k)
     where
-      go : ((rest : Order) → heldBehind rs (w ++ (column e ∷ [])) rest o ≡ false → Stop (w ++ (column e ∷ [])) rest o)
-          → Unheld w r (column e) (λ rest. heldBehind rs (w ++ (column e ∷ [])) rest o) → Stop w r (e ∷ o)
+      go : ((rest : Order) → heldBehind rs (w ++ (column e ∷ [])) rest o ≡ false → Stops (w ++ (column e ∷ [])) rest o)
+          → Unheld w r (column e) (λ rest. heldBehind rs (w ++ (column e ∷ [])) rest o) → Stops w r (e ∷ o)
       go on (later rest q p) =
           let s = on rest q in
-          record {
-            done = s .done;
-            at = s .at;
-            behind = λ d m. s .behind d (Memᴰ·append-left (column e ∷ []) m);
-            unsettled = s .unsettled;
-            named = List·Memᴰ·tail (s .named);
-            below = λ x y a l. inr (a (column e) (among (s .behind (column e) (Memᴰ·append-right w (List·Memᴰ·head refl)))), s .below x y a l);
-            stuck = past-stuck (past-more (s .behind) p) (s .stuck);
-          }
-      go on (stops f s) =
-          record { done = w; at = column e; behind = λ d m. m; unsettled = f; named = List·Memᴰ·head refl; below = λ x y a l. inl l; stuck = s }
+          let behind = s .2 in
+          (
+            s .0,
+            s .1,
+            λ d m. behind d (Memᴰ·append-left (column e ∷ []) m),
+            record {
+              unsettled = s .3 .unsettled;
+              named = List·Memᴰ·tail (s .3 .named);
+              below = λ x y a l. inr (a (column e) (among (behind (column e) (Memᴰ·append-right w (List·Memᴰ·head refl)))), s .3 .below x y a l);
+              stuck = past-stuck (past-more behind p) (s .3 .stuck);
+            },
+          )
+      go on (stops f s) = (w, column e, λ d m. m, record { unsettled = f; named = List·Memᴰ·head refl; below = λ x y a l. inl l; stuck = s })
 
 -- 0 in a settled column, elsewhere 1 where a test passes
-abbrev value : Bool → Bool → ℤ
+abbrev pub value : Bool → Bool → ℤ
 value s b = pick s (pos 0) (pick b (pos 1) (pos 0))
 
 value-bit : (s b : Bool) → (value s b ≡ pos 0) ⊎ (value s b ≡ pos 1)
@@ -154,7 +182,7 @@ pair-stands x y o f i (suc (suc j)) l h b = let z : ⊥ = omega arith in absurd 
 
 module _ (n : ℕ) (rs : List Rule) (w : List ℕ) where
   -- the row of n columns that is 0 in each column that w settles, elsewhere 1 where the test passes
-  abbrev row : (ℕ → Bool) → Row
+  abbrev pub row : (ℕ → Bool) → Row
   row test = map (λ d. value (settled rs w d) (test d)) (upFrom 0 n)
 
   row-values : (test : ℕ → Bool) (v : ℤ) → List·Memᴰ v (row test) → (v ≡ pos 0) ⊎ (v ≡ pos 1)
@@ -221,49 +249,47 @@ module _ (n : ℕ) (rs : List Rule) (w : List ℕ) (test : ℕ → Bool) (small 
       alone h = rows-agree n rs w test (λ d. not (test d)) r (fixed m (λ c k. alike-settles c (small (fix l r) m c (List·Memᴰ·tail k)) (h c k)))
 
 -- where the test stops, the rows with the bits of the entry's class and their opposites
-stop-pair : (n : ℕ) (rs : List Rule) (p o : Order) → ((c : ℕ) → List·Memᴰ c (columns p) → c < n) → ((c : ℕ) → List·Memᴰ c (columns o) → c < n)
-    → RulesBelow n rs → Stop rs [] p o → Counterexample n rs p o
-stop-pair n rs p o pn on small s =
+pub stop-pair : (n : ℕ) (rs : List Rule) (p o : Order) → ((c : ℕ) → List·Memᴰ c (columns p) → c < n) → ((c : ℕ) → List·Memᴰ c (columns o) → c < n)
+    → RulesBelow n rs → (w : List ℕ) (c : ℕ) → Stop rs w c p o → Counterexample n rs p o (row n rs w (alike rs c)) (row n rs w (λ d. not (alike rs c d)))
+stop-pair n rs p o pn on small w c s =
     record {
-      one = one;
-      two = two;
-      one-width = entry-count (λ d. value (settled rs (s .done) d) (class d)) 0 n;
-      two-width = entry-count (λ d. value (settled rs (s .done) d) (not (class d))) 0 n;
-      one-values = row-values n rs (s .done) class;
-      two-values = row-values n rs (s .done) (λ d. not (class d));
+      one-width = entry-count (λ d. value (settled rs w d) (class d)) 0 n;
+      two-width = entry-count (λ d. value (settled rs w d) (not (class d))) 0 n;
+      one-values = row-values n rs w class;
+      two-values = row-values n rs w (λ d. not (class d));
       stands = pair-stands one two p (s .stuck two one agree above);
-      obeys = opposite-obey n rs (s .done) class small (λ a b m. equal-settled (s .at ∷ []) (those-member isEqual rs m refl));
+      obeys = opposite-obey n rs w class small (λ a b m. equal-settled (c ∷ []) (those-member isEqual rs m refl));
       breaks = λ st. st 0 1 (omega arith) (omega arith) (s .below two one agree lower);
     }
   where
     class : ℕ → Bool
-    class d = alike rs (s .at) d
+    class d = alike rs c d
 
     one : Row
-    one = row n rs (s .done) class
+    one = row n rs w class
 
     two : Row
-    two = row n rs (s .done) (λ d. not (class d))
+    two = row n rs w (λ d. not (class d))
 
-    agree : Agree rs (s .done) two one
-    agree = rows-agree n rs (s .done) (λ d. not (class d)) class
+    agree : Agree rs w two one
+    agree = rows-agree n rs w (λ d. not (class d)) class
 
     -- the entry's column: the first row has 1, the second 0
-    lower : Less (cell two (s .at)) (cell one (s .at))
+    lower : Less (cell two c) (cell one c)
     lower =
-        let l = on (s .at) (s .named) in
-        let t = true-says (says-settled (those isEqual rs) (s .at ∷ []) (s .at)) (among (List·Memᴰ·head refl)) in
-        rw (row-open n rs (s .done) (λ d. not (class d)) (s .at) l (s .unsettled), row-open n rs (s .done) class (s .at) l (s .unsettled), t) (omega arith)
+        let l = on c (s .named) in
+        let t = true-says (says-settled (those isEqual rs) (c ∷ []) c) (among (List·Memᴰ·head refl)) in
+        rw (row-open n rs w (λ d. not (class d)) c l (s .unsettled), row-open n rs w class c l (s .unsettled), t) (omega arith)
 
     -- a column neither settled nor of its class: the first row has 0, the second 1
-    above : (d : ℕ) → List·Memᴰ d (columns p) → ¬ Settled rs (s .done) d → ¬ Settled (those isEqual rs) (s .at ∷ []) d → Above two one d
+    above : (d : ℕ) → List·Memᴰ d (columns p) → ¬ Settled rs w d → ¬ Settled (those isEqual rs) (c ∷ []) d → Above two one d
     above d m f g =
-        let t = false-says (says-settled (those isEqual rs) (s .at ∷ []) d) g in
-        rw (row-open n rs (s .done) (λ c. not (class c)) d (pn d m) f, row-open n rs (s .done) class d (pn d m) f, t)
+        let t = false-says (says-settled (those isEqual rs) (c ∷ []) d) g in
+        rw (row-open n rs w (λ e. not (class e)) d (pn d m) f, row-open n rs w class d (pn d m) f, t)
         (λ h. ⊎-elim (λ l. let z : ⊥ = omega arith in absurd z) (bits-differ true) h)
 
 -- Where the closure test says no, two rows of 0 and 1 show it.
 pub fails-pair : (n : ℕ) (rs : List Rule) (p o : Order) → ((c : ℕ) → List·Memᴰ c (columns p) → c < n) → ((c : ℕ) → List·Memᴰ c (columns o) → c < n)
-    → RulesBelow n rs → isHeld rs p o ≡ false → Counterexample n rs p o
+    → RulesBelow n rs → isHeld rs p o ≡ false → Broken n rs p o
 unfolding isHeld
-fails-pair n rs p o pn on small k = stop-pair n rs p o pn on small (stop rs [] p o k)
+fails-pair n rs p o pn on small k = let s = stop rs [] p o k in (_, _, stop-pair n rs p o pn on small (s .0) (s .1) (s .3))

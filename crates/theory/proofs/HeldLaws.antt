@@ -6,15 +6,15 @@ use mathlib.Core.Bool.{Bool, true, false}
 use mathlib.Core.List.{List}
 use Rattle.theory.specs.Tests.{holds, fails}
 use Rattle.theory.specs.Orders.{Order, columns, Rule, Columns, RulesBelow}
-use Rattle.theory.specs.Rows.{Counterexample, HoldsOfRows}
+use Rattle.theory.specs.Rows.{Broken, HoldsOfRows}
 use Rattle.theory.specs.Settled.{isHeld, Exact}
 use Rattle.theory.proofs.RowTheorem.{row-theorem}
 use Rattle.theory.proofs.CounterexampleLaws.{fails-pair}
 use Rattle.theory.proofs.DerivedLaws.{passes-derived}
 
 -- what is true of all rows is true of two
-not-shown : {n : ℕ} {rs : List Rule} {p o : Order} → HoldsOfRows rs p o → ¬ Counterexample n rs p o
-not-shown h c = c .breaks (h _ (c .stands) (c .obeys))
+not-shown : {n : ℕ} {rs : List Rule} {p o : Order} → HoldsOfRows rs p o → ¬ Broken n rs p o
+not-shown h c = c .2 .breaks (h _ (c .2 .stands) (c .2 .obeys))
 
 pub held-exactly : (n : ℕ) (rs : List Rule) (p o : Order) → Columns n (columns p) → Columns n (columns o) → RulesBelow n rs → Exact n rs p o (isHeld rs p o)
 held-exactly n rs p o cp co below = go (isHeld rs p o) refl

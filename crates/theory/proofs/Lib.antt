@@ -39,3 +39,4 @@ pub mod VerificationLaws
 pub mod SuppliedTables
 pub mod FewestRows
 pub mod AnyOrder
+pub mod TwoRows

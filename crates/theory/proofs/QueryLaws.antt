@@ -72,7 +72,11 @@ query-few b =
     let twins : Few (twinRefusal b) = search (pick-either Few, leb-true, refl) in
     pick-either Few (eqb (sizesRefusal b) passed) (pick-either Few (eqb (firstOf (itemRefusal b) (itemCount b)) passed) twins items) (sizes-few b)
 
--- the counts of orders and sets are the sizes
+-- the counts of columns, orders and sets are the sizes
+pub column-count : (b : Bytes) → readQuery b .columns ≡ columnCount b
+unfolding readQuery
+column-count b = refl
+
 pub produced-count : (b : Bytes) → length (readQuery b .produced) ≡ producedCount b
 unfolding readQuery
 produced-count b = entry-count (orderAt b) 0 (producedCount b)

@@ -11,6 +11,7 @@ use Rattle.theory.specs.Orders.{Order, columns, Dependency, columnsOf, C
 use Rattle.theory.specs.Refusals.{passed}
 use Rattle.theory.specs.Query.{Bytes, columnCount, producedCount, testedCount, setCount, dependencyCount, orderCount, orderAt, dependencyAt, readQuery, queryRefusal}
 use Rattle.theory.proofs.ListLaws.{member-upFrom}
+use Rattle.theory.proofs.QueryLaws.{column-count}
 use Rattle.theory.proofs.PassedLaws.{Passed, query-passed}
 use Rattle.theory.proofs.RangeLaws.{entry-at, upFrom-append}
 
@@ -42,17 +43,16 @@ module _ (b : Bytes) (p : Passed b) where
       let f = p .dependency (t .0) (u .0) (u .1) in
       rw (← t .2) (f .set, f .columns)
 
-column-count : (b : Bytes) {l : List ℕ} → Columns (columnCount b) l → Columns (readQuery b .columns) l
-unfolding readQuery
-column-count b c = c
+columns-read : (b : Bytes) {l : List ℕ} → Columns (columnCount b) l → Columns (readQuery b .columns) l
+columns-read b {l} = subst (λ n. Columns n l) (sym (column-count b))
 
 -- A query that passes checks 1 to 6 is well formed.
 pub query-formed : (b : Bytes) → queryRefusal b ≡ passed → WellFormed (readQuery b)
 query-formed b e =
     let p = query-passed b e in
     record {
-      orders = λ o m. subst (Columns (readQuery b .columns)) (sym (map-id o)) (column-count b (order-columns b p o m .1));
+      orders = λ o m. subst (Columns (readQuery b .columns)) (sym (map-id o)) (columns-read b (order-columns b p o m .1));
       rules = λ r m c k.
           let t = Memᴰ·of-map (λ (d : Dependency). d .rule) (readQuery b .dependencies) m in
-          column-count b (dependency-columns b p (t .0) (t .1) .1) .below c (subst (λ x. List·Memᴰ c (columnsOf x)) (sym (t .2)) k);
+          columns-read b (dependency-columns b p (t .0) (t .1) .1) .below c (subst (λ x. List·Memᴰ c (columnsOf x)) (sym (t .2)) k);
     }

@@ -3,6 +3,7 @@ use Prim.Native.Nat.{ℕ, zero, suc}
 use mathlib.Core.Bool.{Bool, true, false}
 use mathlib.Core.List.{List, [], _∷_}
 use lib.ListN.{getD, replicate}
+use Rattle.theory.specs.Tests.{those, upFrom, inMask}
 use Rattle.theory.specs.Orders.{Rule, Query, rulesIn}
 
 abbrev pub Choice : Type 0
@@ -30,3 +31,7 @@ withSets c (s ∷ ss) = withSets (withSet c s) ss
 -- The rules of all sets in force together.
 abbrev pub rulesUnder : Query → Choice → List Rule
 rulesUnder q c = rulesIn (inForce c) (q .dependencies)
+
+-- Of n sets those in force under the choice with the number x.
+abbrev pub setsOf : ℕ → ℕ → List ℕ
+setsOf n x = those (inMask x) (upFrom 0 n)

@@ -17,3 +17,4 @@ pub mod Build
 pub mod Lookups
 pub mod Listing
 pub mod Verification
+pub mod Counterexamples

@@ -45,9 +45,7 @@ abbrev pub HoldsOfRows : List Rule → Order → Order → Type 0
 HoldsOfRows rs p o = (rows : List Row) → Stands rows p → ObeysAll rs rows → Stands rows o
 
 -- Two rows of n columns, each value 0 or 1, that stand in p, obey the rules and do not stand in o.
-pub record Counterexample (n : ℕ) (rs : List Rule) (p o : Order) : Type 0 where
-  pub one : Row
-  pub two : Row
+pub record Counterexample (n : ℕ) (rs : List Rule) (p o : Order) (one two : Row) : Type 0 where
   pub one-width : length one ≡ n
   pub two-width : length two ≡ n
   pub one-values : (v : ℤ) → List·Memᴰ v one → (v ≡ pos 0) ⊎ (v ≡ pos 1)
@@ -55,3 +53,7 @@ pub record Counterexample (n : ℕ) (rs : List Rule) (p o : Order) : Type 0 wher
   pub stands : Stands (one ∷ two ∷ []) p
   pub obeys : ObeysAll rs (one ∷ two ∷ [])
   pub breaks : ¬ Stands (one ∷ two ∷ []) o
+
+-- There are two such rows.
+abbrev pub Broken : ℕ → List Rule → Order → Order → Type 0
+Broken n rs p o = (one : Row) × (two : Row) × Counterexample n rs p o one two

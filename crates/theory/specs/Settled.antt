@@ -6,7 +6,7 @@ use lib.Dec.{eqb}
 use lib.ListN.{length}
 use Rattle.theory.specs.Tests.{Says, every, member, those}
 use Rattle.theory.specs.Orders.{Order, column, Rule, fix, equal, Same, Derived}
-use Rattle.theory.specs.Rows.{HoldsOfRows, Counterexample}
+use Rattle.theory.specs.Rows.{HoldsOfRows, Broken}
 
 -- The columns that the columns w *settle* under the rules: rows alike in w are alike in them. They are w itself, the right column of a fix whose left columns are all
 -- settled, and a column equal to a settled one.
@@ -76,4 +76,4 @@ isHeld rs p o = heldBehind rs [] p o
 pub record Exact (n : ℕ) (rs : List Rule) (p o : Order) (held : Bool) : Type 0 where
   pub derived : Says (Derived rs p o) held
   pub rows : Says (HoldsOfRows rs p o) held
-  pub shown : Says (Counterexample n rs p o) (not held)
+  pub shown : Says (Broken n rs p o) (not held)

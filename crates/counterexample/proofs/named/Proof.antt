@@ -1,0 +1,46 @@
+-- `counterexample::named` meets its contract: by the sizes of the query.
+use native.Mathlib.Omega.{arith}
+use denote.Ref.{now}
+use borrow.Author.Needs.{needs}
+use Rattle.theory.specs.Tests.{fails}
+use Rattle.theory.proofs.QueryLaws.{query-sizes}
+use Rattle.counterexample.proofs.NamedLaws.{not-entered, not-looked-for, chosen-says}
+use Rattle.counterexample.proofs.named.Statement.{statement}
+use Rattle.counterexample.proofs.named.Tie as tie
+
+produced-requires : tie.Need-produced-requires
+produced-requires c κs = search needs
+
+returns : tie.Need-returns
+returns c = let a = c .before .before .before .args in fails (not-entered (now (a .query)) (a .produced) (a .sets) (a .order) (omega arith))
+
+order-count-requires : tie.Need-order-count-requires
+order-count-requires c κs = search needs
+
+returns-2 : tie.Need-returns-2
+returns-2 c = let a = c .before .before .before .before .before .args in fails (not-looked-for (now (a .query)) (a .produced) (a .sets) (a .order) (omega arith))
+
+sets-requires : tie.Need-sets-requires
+sets-requires c κs = search needs
+
+cast-result : tie.Need-cast-result
+cast-result c = search needs
+
+shr-result : tie.Need-shr-result
+shr-result c = let s = c .before .before .before .before .before .before in omega (arith, query-sizes (now (s .args .query)) (s .pre) .few-sets)
+
+returns-3 : tie.Need-returns-3
+returns-3 c = let a = c .before .before .before .before .before .before .args in rw (c .sets .ensures) (chosen-says (now (a .query)) (a .produced) (a .sets) (a .order) (omega arith) (omega arith))
+
+pub named-spec : {M : Type 1} → statement M
+named-spec =
+    tie.close
+    (tie.spec
+    produced-requires
+    returns
+    order-count-requires
+    returns-2
+    sets-requires
+    cast-result
+    shr-result
+    returns-3)

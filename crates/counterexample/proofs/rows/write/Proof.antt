@@ -1,0 +1,30 @@
+-- `counterexample::rows::write` meets its contract: the second row is placed behind the first.
+use borrow.Author.Needs.{needs}
+use native.Mathlib.Omega.{arith}
+use mathlib.Core.Path.{_∙_, ap}
+use mathlib.Core.Bool.{true, false}
+use denote.Ref.{now}
+use Rattle.theory.proofs.RangeLaws.{entry-count}
+use Rattle.byte_rows.specs.Placed.{placed}
+use Rattle.byte_rows.proofs.PlacedLaws.{placed-more}
+use Rattle.settled.specs.Ends.{rowBy}
+use Rattle.counterexample.proofs.WriteLaws.{valueOf}
+use Rattle.counterexample.proofs.rows.write.Statement.{statement}
+use Rattle.counterexample.proofs.rows.write.Tie as tie
+
+write-row-requires : tie.Need-write-row-requires
+write-row-requires c κs = search needs
+
+write-row-requires-2 : tie.Need-write-row-requires-2
+write-row-requires-2 c κs = search needs
+
+same-length : tie.Need-same-length
+same-length c = search needs
+
+returns : tie.Need-returns
+returns c = let a = c .before .before .before .before .before .before .before .before .before .args in
+    c .before .before .write-row2 .ensures ∙ ap (placed (a .n) (rowBy false (a .settled) (a .class) (a .n))) (c .before .before .before .before .before .before .write-row .ensures)
+    ∙ placed-more 0 (a .n) (rowBy true (a .settled) (a .class) (a .n)) (rowBy false (a .settled) (a .class) (a .n)) (now (a .rows)) (omega (arith, entry-count (valueOf true (a .settled) (a .class)) 0 (a .n))) (omega arith)
+
+pub write-spec : {M : Type 1} → statement M
+write-spec = tie.close (tie.spec write-row-requires write-row-requires-2 same-length returns)

@@ -1,0 +1,19 @@
+-- Document 01's number and value for each case of the answer.
+use Prim.Native.Nat.{ℕ}
+use mathlib.Core.Logic.{_≢_}
+use Rattle.theory.specs.Refusals.{passed}
+use Rattle.theory.specs.Table.{Answer, grant, refuse}
+use Rattle.counterexample.specs.declared.Found.{Found}
+use Rattle.counterexample.specs.declared.Found.the-variants as found
+
+-- A pair is 1 and none is 0, or the refusal.
+abbrev pub answerOf : Found → Answer
+answerOf found.Pair = grant 1
+answerOf found.None = grant 0
+answerOf (found.Refused n) = refuse n
+
+-- A refusal's number is not 0, so that no refusal reads as "none".
+abbrev pub Listed : Found → Type 0
+Listed found.Pair = Unit
+Listed found.None = Unit
+Listed (found.Refused n) = n ≢ passed

@@ -1,0 +1,31 @@
+-- How the closure test ends, and the two rows of the masks that it hands out where it stops.
+use Prim.Native.Nat.{ℕ, _<_}
+use mathlib.Core.Path.{_≡_}
+use mathlib.Core.Bool.{Bool, true, false, not}
+use mathlib.Core.List.{List, map, List·Memᴰ}
+use lib.IntN.{pos}
+use Rattle.theory.specs.Tests.{pick, upFrom, inMask}
+use Rattle.theory.specs.Orders.{Order, columns, Rule, RulesBelow}
+use Rattle.theory.specs.Rows.{Counterexample}
+use Rattle.theory.specs.Settled.{isHeld}
+use Rattle.theory.specs.Query.{Bytes}
+use Rattle.theory.specs.Table.{bit}
+use Rattle.settled.specs.declared.Tested.{Tested}
+use Rattle.settled.specs.declared.Tested.the-variants as tested
+
+-- A row's value in a column, by whether the column is settled and whether it is in the class: 0 where it is settled, and elsewhere the first row of two has 1 in the class
+-- and the second has 1 in all other columns.
+abbrev pub valueIn : Bool → Bool → Bool → ℕ
+valueIn first settled class = pick settled 0 (bit (pick first class (not class)))
+
+-- The first row or the second of two rows of n columns, by the masks of the settled columns and of the class.
+abbrev pub rowBy : Bool → ℕ → ℕ → ℕ → Bytes
+rowBy first settled class n = map (λ c. valueIn first (inMask settled c) (inMask class c)) (upFrom 0 n)
+
+-- The test says whether the order is held, and where it stops, the two rows by its masks show that it is not, whatever the number of columns.
+abbrev pub Ends : List Rule → Order → Order → Tested → Type 0
+Ends rs p o tested.Held = isHeld rs p o ≡ true
+Ends rs p o (tested.Stopped settled class) =
+    (isHeld rs p o ≡ false)
+    × ((n : ℕ) → ((c : ℕ) → List·Memᴰ c (columns p) → c < n) → ((c : ℕ) → List·Memᴰ c (columns o) → c < n) → RulesBelow n rs
+    → Counterexample n rs p o (map pos (rowBy true settled class n)) (map pos (rowBy false settled class n)))
