@@ -2,22 +2,16 @@
 use Prim.Native.Nat.{ℕ, _+_, _*_, _/_, _^_, _<_, _≤_}
 use native.Mathlib.Nat.{div-eq-of-lt, lt-div-mul-add}
 use native.Mathlib.Omega.{arith}
-use mathlib.Core.Path.{_≡_, sym, _∙_, ap₂, subst}
+use mathlib.Core.Path.{_≡_, sym, subst}
 use mathlib.Core.Bool.{Bool}
 use lib.Dec.{eqb}
-use lib.ListN.{length, length-append}
 use lib.Pow.{pow-pos}
 use Rattle.theory.specs.Tests.{Says, holds, fails}
-use Rattle.theory.specs.Orders.{interesting}
 use Rattle.theory.specs.Query.{Bytes, producedCount, setCount, orderCount, readQuery}
 use Rattle.theory.specs.Counterexamples.{Named}
 use Rattle.theory.proofs.Reflect.{says-eqb}
 use Rattle.theory.proofs.BitLaws.{bit-low, low-bits}
-use Rattle.theory.proofs.QueryLaws.{produced-count, tested-count, set-count}
-
--- there are P + T interesting orders
-pub order-count : (b : Bytes) → length (interesting (readQuery b)) ≡ orderCount b
-order-count b = length-append (readQuery b .produced) (readQuery b .tested) ∙ ap₂ _+_ (produced-count b) (tested-count b)
+use Rattle.theory.proofs.QueryLaws.{produced-count, order-count, set-count}
 
 module _ (b : Bytes) (produced sets order : ℕ) where
   -- no produced order has the number

@@ -14,7 +14,7 @@ use Rattle.theory.specs.Counterexamples.{Askable, standing, lookedFor, rulesCho
 use Rattle.theory.proofs.Reflect.{says-true, says-false}
 use Rattle.theory.proofs.ListLaws.{member-getD}
 use Rattle.theory.proofs.RangeLaws.{entry-of, entry-count}
-use Rattle.theory.proofs.QueryLaws.{produced-count, set-count}
+use Rattle.theory.proofs.QueryLaws.{produced-count, order-count, set-count}
 use Rattle.theory.proofs.ReadLaws.{interesting-read, produced-at, query-formed}
 use Rattle.theory.proofs.ConstructionLaws.{rules-below}
 use Rattle.theory.proofs.TwoRows.{rules-chosen, askable-exactly}
@@ -24,7 +24,6 @@ use Rattle.settled.specs.declared.Tested.{Tested}
 use Rattle.settled.specs.declared.Tested.the-variants as tested
 use Rattle.settled.specs.Masks.{rulesAt}
 use Rattle.settled.specs.Ends.{valueIn, rowBy, Ends}
-use Rattle.counterexample.proofs.NamedLaws.{order-count}
 
 -- two rows of n columns in the first bytes
 both-first : (settled class n : ℕ) (rows : Bytes)

@@ -1,4 +1,4 @@
-// The listing of a table, written into a lent text.
+// The listing of a table, written into a lent text; and words and numbers written likewise.
 ghost use Prim.Native.Nat.{_≤_};
 ghost use lib.ListN.{length};
 ghost use Rattle.theory.specs.Listing.{refusedLine, tableListing};
@@ -11,7 +11,7 @@ use text::number;
 use text::word;
 
 mod lines;
-mod text;
+pub mod text;
 
 // The listing of a table; how many bytes it has. They are the first ones of the text, and the others are kept.
 pub fn list(table: &[u8], text: &mut [u8]) -> usize

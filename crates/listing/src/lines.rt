@@ -1,14 +1,13 @@
 // The lines of a listing, each written at a place of a text. Each hands back the place behind.
-ghost use mathlib.Core.List.{map, flatten};
 ghost use Prim.Native.Nat.{_+_, _<_, _≤_};
 ghost use lib.ListN.{length};
-ghost use Rattle.theory.specs.Limits.{maxSets};
 ghost use Rattle.theory.specs.Table.{statesIn, producedIn};
-ghost use Rattle.theory.specs.Listing.{spaced, countLine, startLine, stateLine};
+ghost use Rattle.theory.specs.Listing.{countLine, startLine, stateLine};
 ghost use Rattle.table.specs.Form.{Formed};
-ghost use Rattle.listing.specs.Text.{longestCount, longestStart, longestStarts, longestRow, longestHeld, longestState, longestStates, Wrote, lines, heldField};
+ghost use Rattle.listing.specs.Text.{longestCount, longestStart, longestStarts, longestHeld, longestState, longestStates, Wrote, lines, heldField};
 use crate::text::number;
 use crate::text::number_of;
+use crate::text::row_numbers;
 use crate::text::spaced_number;
 use crate::text::word;
 use numbers::limits;
@@ -50,20 +49,6 @@ pub fn start_lines(table: &[u8], text: &mut [u8], at: usize) -> usize
     while p < n {
         end = start_line(table, p, text, end);
         p += 1;
-    }
-    end
-}
-
-// The successors in a row.
-fn row_numbers(row: &[u8], text: &mut [u8], at: usize) -> usize
-    requires { ⌜ (length (now row) ≤ maxSets) × (at + longestRow ≤ length (now text)) ⌝ }
-    ensures { λ r. ⌜ Wrote (now (text .entry)) at (flatten (map spaced (now (row .entry)))) longestRow (now (text .exit)) r ⌝ }
-{
-    let mut end = at;
-    let mut i = 0;
-    while i < row.len() {
-        end = spaced_number(text, end, row[i]);
-        i += 1;
     }
     end
 }

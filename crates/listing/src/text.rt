@@ -1,6 +1,6 @@
 // Words and numbers, each written at a place of a text. Each hands back the place behind.
-ghost use mathlib.Core.List.{[], _∷_};
-ghost use Prim.Native.Nat.{_+_, _%_, _<_, _≤_};
+ghost use mathlib.Core.List.{[], _∷_, map, flatten};
+ghost use Prim.Native.Nat.{_+_, _*_, _%_, _<_, _≤_};
 ghost use lib.ListN.{length};
 ghost use Rattle.theory.specs.Listing.{decimal, decimalWithin, spaced};
 ghost use Rattle.listing.specs.Text.{Wrote};
@@ -54,4 +54,18 @@ pub fn spaced_number(text: &mut [u8], at: usize, n: u8) -> usize
 {
     let digits = word(text, at, b" ");
     number(text, digits, n as usize)
+}
+
+// A row of numbers, each behind a space.
+pub fn row_numbers(row: &[u8], text: &mut [u8], at: usize) -> usize
+    requires { ⌜ at + length (now row) * 4 ≤ length (now text) ⌝ }
+    ensures { λ r. ⌜ Wrote (now (text .entry)) at (flatten (map spaced (now (row .entry)))) (length (now (row .entry)) * 4) (now (text .exit)) r ⌝ }
+{
+    let mut end = at;
+    let mut i = 0;
+    while i < row.len() {
+        end = spaced_number(text, end, row[i]);
+        i += 1;
+    }
+    end
 }

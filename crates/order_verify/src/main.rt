@@ -3,8 +3,8 @@
 //
 // No query has more than 165 bytes and no table more than 1,292, so the first 256 bytes of the one file and the first 1,293 of the other are enough: their
 // outcome is that of the whole files, which is proved (`verify-front`). Reading stops there, or where the file ends.
+use files::read_argument;
 use input::Input;
-use input::read_front;
 use libc::STDERR_FILENO;
 use libc::STDOUT_FILENO;
 use numbers::limits::LONGEST_REFUSAL;
@@ -14,7 +14,6 @@ use numbers::limits::TABLE_FRONT;
 use numbers::refusals::PASSED;
 ghost use Prim.Native.Nat.{_≤_};
 ghost use lib.ListN.{length};
-ghost use Rattle.input.specs.Within.{Within};
 ghost use Rattle.listing.specs.Text.{longestRefusal, Printed};
 ghost use Rattle.order_verify.specs.Verdict.{acceptedLine, verdictLine, Decides};
 
@@ -54,36 +53,6 @@ fn print(query: &[u8], table: &[u8]) -> bool {
     let mut text = [0u8; LONGEST_REFUSAL];
     let length = answer(query, table, &mut text);
     io::write_all(STDOUT_FILENO, &text[..length])
-}
-
-// Reads the beginning of the file of that name. What failed is said on standard error.
-fn read_file(name: &[u8], buffer: &mut [u8]) -> Input
-    ensures { λ r. ⌜ Within r (length (now (buffer .exit))) ⌝ }
-{
-    let fd = os::open_read(name);
-    if fd < 0 {
-        os::fail(name);
-        return Input::Failed;
-    }
-    let input = read_front(fd, buffer);
-    if let Input::Failed = input {
-        os::fail(name);
-    }
-    libc::close(fd);
-    input
-}
-
-// The same of the file that an argument names.
-fn read_argument(i: usize, buffer: &mut [u8]) -> Input
-    ensures { λ r. ⌜ Within r (length (now (buffer .exit))) ⌝ }
-{
-    let mut name = io::buffer();
-    let length = os::arg(i, &mut name);
-    if os::errno() != 0 {
-        os::fail(b"the name of a file");
-        return Input::Failed;
-    }
-    read_file(&name[..length], buffer)
 }
 
 // A program cannot set its exit status yet, so what failed is said on standard error.

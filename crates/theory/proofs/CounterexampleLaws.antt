@@ -146,8 +146,7 @@ module _ (rs : List Rule) where
           → Unheld w r (column e) (λ rest. heldBehind rs (w ++ (column e ∷ [])) rest o) → Stops w r (e ∷ o)
       go on (later rest q p) =
           let s = on rest q in
-          let behind = s .2 in
-          (
+          let behind = s .2 in (
             s .0,
             s .1,
             λ d m. behind d (Memᴰ·append-left (column e ∷ []) m),

@@ -1,13 +1,14 @@
 -- The sizes of a query, and their limits where it passes checks 1 to 6.
 use Prim.Native.Nat.{ℕ, zero, suc, _+_, _*_, _≤_}
 use native.Mathlib.Omega.{arith}
-use mathlib.Core.Path.{_≡_, refl}
+use mathlib.Core.Path.{_≡_, refl, _∙_, ap₂}
 use lib.Dec.{ltb, eqb}
-use lib.ListN.{length}
+use lib.ListN.{length, length-append}
 use borrow.Author.Tests.{ltb-false, eqb-true, leb-true}
 use Rattle.theory.specs.Limits.{maxColumns, maxProduced, maxTested, maxSets, maxDependencies, querySizes, itemWidth}
+use Rattle.theory.specs.Orders.{interesting}
 use Rattle.theory.specs.Refusals.{passed, twin-refused, firstRefusal, firstOf}
-use Rattle.theory.specs.Query.{Bytes, columnCount, producedCount, testedCount, setCount, dependencyCount, itemCount, orderAt, readQuery, outside, sizesRefusal, bodyRefusal, orderRefusal, dependencyRefusal, itemRefusal, twinRefusal, queryRefusal}
+use Rattle.theory.specs.Query.{Bytes, columnCount, producedCount, testedCount, setCount, dependencyCount, orderCount, itemCount, orderAt, readQuery, outside, sizesRefusal, bodyRefusal, orderRefusal, dependencyRefusal, itemRefusal, twinRefusal, queryRefusal}
 use Rattle.theory.proofs.RangeLaws.{entry-count}
 use Rattle.theory.proofs.RefusalLaws.{refused-then, refused-else, pick-either, neither, or-passed}
 
@@ -84,6 +85,9 @@ produced-count b = entry-count (orderAt b) 0 (producedCount b)
 pub tested-count : (b : Bytes) → length (readQuery b .tested) ≡ testedCount b
 unfolding readQuery
 tested-count b = entry-count (orderAt b) (producedCount b) (testedCount b)
+
+pub order-count : (b : Bytes) → length (interesting (readQuery b)) ≡ orderCount b
+order-count b = length-append (readQuery b .produced) (readQuery b .tested) ∙ ap₂ _+_ (produced-count b) (tested-count b)
 
 pub set-count : (b : Bytes) → readQuery b .sets ≡ setCount b
 unfolding readQuery

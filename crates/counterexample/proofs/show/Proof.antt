@@ -4,10 +4,9 @@ use native.Mathlib.Omega.{arith}
 use mathlib.Core.Path.{sym, _∙_, subst}
 use denote.Ref.{now}
 use Rattle.theory.specs.Query.{orderAt}
-use Rattle.theory.proofs.QueryLaws.{query-sizes, column-count, produced-count}
+use Rattle.theory.proofs.QueryLaws.{query-sizes, column-count, produced-count, order-count}
 use Rattle.settled.specs.Masks.{rulesAt}
 use Rattle.settled.specs.Ends.{Ends}
-use Rattle.counterexample.proofs.NamedLaws.{order-count}
 use Rattle.counterexample.proofs.ShowLaws.{held-shows, stop-shows}
 use Rattle.counterexample.proofs.show.Statement.{statement}
 use Rattle.counterexample.proofs.show.Tie as tie
@@ -40,9 +39,11 @@ same-length : tie.Need-same-length
 same-length c = search needs
 
 returns-2 : tie.Need-returns-2
-returns-2 c = let s = c .before .before .before .before .before .before .before .before .before .before .before in let a = s .args in let q = now (a .query) in
-    (stop-shows q (a .produced) (a .sets) (a .order) (s .pre) _ _ (subst (Ends (rulesAt q (a .sets)) (orderAt q (a .produced)) (orderAt q (a .order))) (c .before .before .before .before .before .settled .given .1) (c .before .before .before .before .before .before .before .tested .ensures))
-    _ (c .before .before .before .before .before .before .before .before .columns .ensures ∙ sym (column-count q)) (c .before .before .write .ensures), tt)
+returns-2 c = let s = c .before .before .before .before .before .before .before .before .before .before .before in let a = s .args in let q = now (a .query) in (
+  stop-shows q (a .produced) (a .sets) (a .order) (s .pre) _ _ (subst (Ends (rulesAt q (a .sets)) (orderAt q (a .produced)) (orderAt q (a .order))) (c .before .before .before .before .before .settled .given .1) (c .before .before .before .before .before .before .before .tested .ensures))
+      _ (c .before .before .before .before .before .before .before .before .columns .ensures ∙ sym (column-count q)) (c .before .before .write .ensures),
+  tt,
+)
 
 pub show-spec : {M : Type 1} → statement M
 show-spec =

@@ -1,7 +1,10 @@
 -- `listing::lines::state_line` meets its contract: its five pieces, one behind the other.
+use native.Mathlib.Omega.{arith}
+use mathlib.Core.Path.{refl}
 use borrow.Author.Needs.{needs}
 use Rattle.theory.specs.Listing.{stateLine}
-use Rattle.listing.proofs.TextLaws.{wrote-on}
+use Rattle.listing.specs.Text.{longestRow, Wrote}
+use Rattle.listing.proofs.TextLaws.{wrote-as, wrote-on}
 use Rattle.listing.proofs.lines.state_line.Statement.{statement}
 use Rattle.listing.proofs.lines.state_line.Tie as tie
 
@@ -39,9 +42,11 @@ returns c =
     let row = end .before .before .before .before in
     let next = row .before .before .before .before .before in
     let state = next .before .before .before .before .before in
+    let start = state .before .before .before .before .before .before .before .before .before in
+    let row-short : Wrote _ _ _ longestRow _ _ = wrote-as refl (omega (arith, row .before .before .successors .ensures .1, start .pre .0)) (row .row-numbers .ensures) in
     rw (← row .before .before .successors .ensures .0)
     (wrote-on (state .before .before .before .before .word .ensures)
-    (wrote-on (state .number .ensures) (wrote-on (next .word2 .ensures) (wrote-on (row .row-numbers .ensures) (end .held-field .ensures)))))
+    (wrote-on (state .number .ensures) (wrote-on (next .word2 .ensures) (wrote-on row-short (end .held-field .ensures)))))
 
 pub state-line-spec : {M : Type 1} → statement M
 state-line-spec =

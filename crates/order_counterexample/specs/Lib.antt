@@ -1,0 +1,2 @@
+-- What the functions of this program promise.
+pub mod Evidence
