@@ -12,7 +12,7 @@ docs/measure.sh "$proofs"
 # `rt ci` begins by removing target/, with what cargo has built there for the second implementation's tests, so it is built anew below. What `rt ci`
 # has proved is not proved again for the library and the programs. The tests print what they compared.
 rt staticlib order_tables
-rt check order_listing order_verify
+rt check order_listing order_verify order_counterexample
 cargo test --release --offline --locked -p order_tables
 cargo test --release --offline --locked -p differential -- --nocapture
 cargo test --release --offline --locked -p benchmarks

@@ -1,4 +1,5 @@
-/* Order tables: check a query and read it, build its table, check a table, put a supplier's table on trial, look it up, list it.
+/* Order tables: check a query and read it, build its table, check a table, put a supplier's table on trial, look it up, list it, and show two rows
+ * where an order is not held.
  *
  * Every function but order_query_order and order_query_dependency returns a refusal's number times 65,536 plus a value. A refusal of 0 is none,
  * and on refusal the value is 0. Split such a result with order_table_refusal and order_table_value.
@@ -7,7 +8,7 @@
  * a null one. Nothing is allocated, and nothing is kept between calls.
  *
  * Handles are bytes of three kinds: interesting orders (the produced ones first, then the tested ones), sets, and states. One never stands in
- * for another. A state of a table is one of its rows. A plan node carries one state.
+ * for another. A state of a table is one of its rows. A plan node carries one state. A choice of sets is a byte too: bit i is set i.
  *
  * A set that is taken stays in force: what holds is what all sets taken since the entry give together. So a planner may take its sets in any order,
  * and taking one again changes nothing.
@@ -33,8 +34,8 @@ enum order_table_refusals {
     ORDER_TABLE_TWIN = 6,      /* two equal interesting orders */
     ORDER_TABLE_ORDERINGS = 7, /* never given any more: its number and word stay in the list */
     ORDER_TABLE_STATES = 8,    /* the smallest table has more than 128 rows */
-    ORDER_TABLE_SPACE = 9,     /* scratch below ORDER_TABLE_SCRATCH bytes, or output or text too short */
-    ORDER_TABLE_HANDLE = 10,   /* state, produced order, set or interesting order not in the table */
+    ORDER_TABLE_SPACE = 9,     /* scratch below ORDER_TABLE_SCRATCH bytes, or output, text or rows too short */
+    ORDER_TABLE_HANDLE = 10,   /* state, produced order, set or interesting order not in the table or the query */
     ORDER_TABLE_ROW = 11,      /* a start or successor that is no state of the table, or a held bit past the interesting orders */
     ORDER_TABLE_MISMATCH = 12, /* a table with another number of produced orders, tested orders or sets than the query */
     ORDER_TABLE_ANSWER = 13    /* a table whose answer, from some start and through some run of sets, is wrong for the query */
@@ -45,7 +46,8 @@ enum order_table_sizes {
     ORDER_TABLE_SCRATCH = 16384,      /* what a build, a listing or a trial of a supplier's table takes as scratch */
     ORDER_TABLE_LONGEST_QUERY = 165,  /* five sizes, and 32 items of one head and four bytes */
     ORDER_TABLE_LONGEST_TABLE = 1292, /* four sizes, 8 starts, 128 rows of 8 successors, 128 times two bytes of held bits */
-    ORDER_TABLE_LISTING = 7547        /* room for every listing */
+    ORDER_TABLE_LISTING = 7547,       /* room for every listing */
+    ORDER_TABLE_TWO_ROWS = 24         /* room for two rows of every query, of 12 columns each */
 };
 
 /* The refusal's number of a result; 0 when it is granted. */
@@ -66,6 +68,18 @@ uint64_t order_query_order(const uint8_t *query, size_t query_length, uint8_t i)
  * columns, a byte each, the first one lowest, and 0 above them. Kind 0 to 3 is a fix with that many left columns: those, then the right one. Kind 4
  * is an equal: two columns. Of other queries, or past the last dependency, it is a number without meaning, fixed by the query's bytes and i. */
 uint64_t order_query_dependency(const uint8_t *query, size_t query_length, uint8_t i);
+
+/* Shows why an interesting order is not held of rows in a produced order under a choice of sets in force. Value: 1 where two rows are written, 0 where
+ * there are none. The two rows stand in the produced order, obey every dependency of the sets and do not stand in the order looked for: there the
+ * second one compares below the first. They are written exactly when the derivation rules do not give the order: when order_table_ask says not held
+ * after that entry and those sets, or would say so in a table with no limit on its rows. Where there are none, all rows that stand in the produced
+ * order and obey the sets stand in the order looked for.
+ * A row is N bytes, a value for each column, 0 or 1. The two rows fill the first 2 times N bytes of the buffer, one behind the other; any two that are
+ * as said may come. The bytes past them keep theirs, and all do where there are none and on refusal.
+ * Refusals, in this order: 1 to 6; 10 when the produced order is not below P, the interesting order is not below P + T, or a bit of the choice that is
+ * not below S is 1; 9 when the buffer is shorter than 2 times N bytes, whether there are two rows or none. 8 never comes, and no scratch is needed. */
+uint32_t order_query_counterexample(const uint8_t *query, size_t query_length, uint8_t produced, uint8_t sets, uint8_t order, uint8_t *rows,
+                                    size_t rows_length);
 
 /* Builds the table of a query into the output's first bytes. Value: the table's length. Refusals, in this order: 1 to 6, 9 for scratch, 8, and 9 for
  * output.

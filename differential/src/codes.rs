@@ -1,5 +1,5 @@
 //! The numbers that the proved library's functions return, made from the second
-//! implementation's answers.
+//! implementation's answers, or made into one.
 
 use reference::Dependency;
 
@@ -9,6 +9,16 @@ pub fn answer(answer: Result<u32, u8>) -> u32 {
         Ok(value) => value,
         Err(refusal) => u32::from(refusal) * 65_536,
     }
+}
+
+/// Whether two rows are written, or the refusal, where a number says either.
+pub fn two_rows(code: u32) -> Option<Result<bool, u8>> {
+    let said = match code {
+        0 => Ok(false),
+        1 => Ok(true),
+        refused => Err(u8::try_from(refused >> 16).ok()?),
+    };
+    (answer(said.map(u32::from)) == code).then_some(said)
 }
 
 /// An order: its length in the lowest byte, then its columns, a byte each.

@@ -1,7 +1,8 @@
 //! The proved library as an implementation that trials and lists of lookups are
 //! put to.
 
-use order_tables::{OrderHandle, Refusal, SetHandle, StateNumber, Table};
+use order_tables::{OrderHandle, Refusal, SetChoice, SetHandle, StateNumber, Table};
+use reference::counterexample::Asked;
 use reference::Implementation;
 
 /// The proved library, called through the wrapper.
@@ -31,6 +32,15 @@ impl Implementation for Library {
     fn ask(table: &[u8], state: u8, order: u8) -> Result<bool, u8> {
         let held = Table::new(table).ask(StateNumber(state), OrderHandle(order));
         held.map_err(Refusal::number)
+    }
+
+    fn counterexample(query: &[u8], asked: Asked, rows: &mut [u8]) -> Result<bool, u8> {
+        let [produced, order] = [asked.produced, asked.order].map(OrderHandle);
+        let sets = SetChoice(asked.sets);
+        let two_rows = order_tables::counterexample(query, produced, sets, order, rows);
+        two_rows
+            .map(|two_rows| two_rows.is_some())
+            .map_err(Refusal::number)
     }
 }
 

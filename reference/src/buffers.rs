@@ -1,6 +1,8 @@
 //! Lent buffers: when space is refused, and how scratch, output and text are
-//! after a build, a listing or a trial of a table.
+//! after a build, a listing or a trial of a table, and the rows after they are asked
+//! for.
 
+use crate::counterexample::Question;
 use crate::listing::printed;
 use crate::table::Table;
 use crate::{refusal, verification};
@@ -38,6 +40,25 @@ pub fn verify(own: &Result<Table, u8>, supplied: &[u8], scratch: &mut [u8]) -> R
     use_scratch(own, scratch)?;
     let own = own.as_ref().map_err(|&refusal| refusal)?;
     verification::compare(own, supplied)
+}
+
+/// Two rows to a question, which is read or refused with 1 to 6 or 10. Writes them into
+/// the buffer's first bytes, row after row, and gives whether there are two, or the
+/// refusal.
+///
+/// There must be room for two rows even where there are none. The buffer keeps its
+/// bytes on every refusal and where there are none, and past the rows always.
+pub fn counterexample(question: &Result<Question, u8>, rows: &mut [u8]) -> Result<bool, u8> {
+    let question = question.as_ref().map_err(|&refusal| refusal)?;
+    if rows.len() < question.bytes() {
+        return Err(refusal::SPACE);
+    }
+    let given = question.two_rows();
+    if let Some(given) = &given {
+        let bytes: Vec<u8> = given.iter().flatten().map(|&value| value as u8).collect();
+        write(&bytes, rows)?;
+    }
+    Ok(given.is_some())
 }
 
 /// The scratch of a query that is constructed, or refused as this says. Checks 1

@@ -41,11 +41,7 @@ pub fn smallest(query: &Query) -> Table {
 
 /// The dependencies of the sets of a choice, together.
 fn under_choice(query: &Query, choice: usize) -> InForce {
-    let chosen = query
-        .dependencies
-        .iter()
-        .filter(|dependency| choice >> dependency.set & 1 == 1);
-    InForce::new(query.columns, chosen)
+    InForce::new(query.columns, query.dependencies_of(&query.chosen(choice)))
 }
 
 /// What a produced order holds under some dependencies, bit i for interesting order

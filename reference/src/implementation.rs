@@ -1,6 +1,7 @@
 //! What trials and lists of lookups are put to: any implementation, and this one.
 
 use crate::builder::{build_table, table_of};
+use crate::counterexample::{Asked, Question};
 use crate::{buffers, listing, table};
 
 /// An implementation of order tables. Each function gives its value or the
@@ -18,6 +19,9 @@ pub trait Implementation {
     fn take(table: &[u8], state: u8, set: u8) -> Result<u8, u8>;
     /// Asks for an interesting order in a state: whether it is held.
     fn ask(table: &[u8], state: u8, order: u8) -> Result<bool, u8>;
+    /// Writes two rows that show why an order is not held into the buffer's first
+    /// bytes: whether there are two.
+    fn counterexample(query: &[u8], asked: Asked, rows: &mut [u8]) -> Result<bool, u8>;
 
     /// Enters by a produced order and takes some sets in turn: the last state.
     fn follow(table: &[u8], produced: u8, sets: &[u8]) -> Result<u8, u8> {
@@ -53,5 +57,9 @@ impl Implementation for Reference {
 
     fn ask(table: &[u8], state: u8, order: u8) -> Result<bool, u8> {
         table::ask(table, state, order)
+    }
+
+    fn counterexample(query: &[u8], asked: Asked, rows: &mut [u8]) -> Result<bool, u8> {
+        buffers::counterexample(&Question::read(query, asked), rows)
     }
 }

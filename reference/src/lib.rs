@@ -9,7 +9,8 @@
 //! says which orders are held under some dependencies, [`construction`] asks it of
 //! every pair of a produced order and a choice of sets, [`merging`] leaves the fewest
 //! rows, [`table`] writes them down and looks them up. [`builder`] and
-//! [`mod@listing`] join these, [`verification`] puts a supplier's table on trial, and
+//! [`mod@listing`] join these, [`verification`] puts a supplier's table on trial,
+//! [`counterexample`] finds two rows that show why an order is not held, and
 //! [`buffers`] puts what they give into lent buffers. [`derivation`] has the steps
 //! themselves, for few columns. [`model`] answers lookups by them and without a
 //! table, and [`rows`] says what the answers mean for rows.
@@ -24,6 +25,7 @@
 pub mod buffers;
 pub mod builder;
 pub mod construction;
+pub mod counterexample;
 pub mod derivation;
 pub mod implementation;
 pub mod listing;

@@ -1,5 +1,6 @@
 //! Running a program.
 
+use std::ffi::OsStr;
 use std::io::Write;
 use std::path::Path;
 use std::process::{Command, Stdio};
@@ -19,7 +20,7 @@ pub struct Written {
 ///
 /// When the program can't be run, ends in failure or prints no text.
 pub fn printed(program: &Path, query: &[u8]) -> String {
-    run(program, &[], query).output
+    run(program, &[] as &[&str], query).output
 }
 
 /// What a program writes with these arguments and standard input.
@@ -27,7 +28,7 @@ pub fn printed(program: &Path, query: &[u8]) -> String {
 /// # Panics
 ///
 /// When the program can't be run, ends in failure or writes no text.
-pub fn run(program: &Path, arguments: &[&Path], input: &[u8]) -> Written {
+pub fn run(program: &Path, arguments: &[impl AsRef<OsStr>], input: &[u8]) -> Written {
     let mut program = Command::new(program)
         .args(arguments)
         .stdin(Stdio::piped())

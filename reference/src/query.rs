@@ -181,6 +181,13 @@ impl Query {
         self.produced.iter().chain(&self.tested)
     }
 
+    /// The sets of a choice, a number whose bit i is set i.
+    pub fn chosen(&self, choice: usize) -> Vec<u8> {
+        (0..self.sets)
+            .filter(|set| choice >> set & 1 == 1)
+            .collect()
+    }
+
     /// The dependencies of some sets, together.
     pub fn dependencies_of<'q>(
         &'q self,

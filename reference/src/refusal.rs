@@ -17,9 +17,10 @@ pub const TWIN: u8 = 6;
 pub const ORDERINGS: u8 = 7;
 /// More than 128 rows in the smallest table.
 pub const STATES: u8 = 8;
-/// Scratch below 16,384 bytes, or output shorter than the table.
+/// Scratch below 16,384 bytes, output shorter than the table, or rows shorter than
+/// two of N columns.
 pub const SPACE: u8 = 9;
-/// A state, produced order, set or interesting order not in the table.
+/// A state, produced order, set or interesting order not in the table or the query.
 pub const HANDLE: u8 = 10;
 /// A start or successor not below Q, or a held bit past P+T set.
 pub const ROW: u8 = 11;

@@ -1,6 +1,6 @@
 //! What orders and dependencies mean for rows.
 
-use crate::query::Rule;
+use crate::query::{Dependency, Rule};
 
 /// A row: one whole number per column.
 pub type Row = Vec<i64>;
@@ -29,6 +29,12 @@ pub fn obey(rows: &[Row], rule: &Rule) -> bool {
             .iter()
             .all(|row| row[usize::from(*one)] == row[usize::from(*other)]),
     }
+}
+
+/// Whether rows obey all of some dependencies.
+pub fn obey_all<'d>(rows: &[Row], dependencies: impl IntoIterator<Item = &'d Dependency>) -> bool {
+    let mut dependencies = dependencies.into_iter();
+    dependencies.all(|dependency| obey(rows, &dependency.rule))
 }
 
 /// A row's values in an order's columns, which compare as rows do in the order.

@@ -5,6 +5,7 @@ use std::fs;
 use std::path::{Path, PathBuf};
 
 use crate::buffers::SCRATCH_BYTES;
+use crate::counterexample::{self, Asked};
 use crate::implementation::Implementation;
 use crate::lookups::{table_answers, Answer, Lookup};
 
@@ -29,7 +30,8 @@ pub struct Trial {
     pub table_length: Option<usize>,
     /// The table's bytes; none when the trial doesn't say them.
     pub table: Vec<u8>,
-    /// Lists of lookups that end in an ask, and whether that says held.
+    /// Lists of lookups that end in an ask, and whether that says held. Where it does
+    /// not, two rows show it.
     pub asks: Vec<(Vec<Lookup>, bool)>,
     /// Produced orders, and of each two lists of sets that lead to one state of
     /// the table.
@@ -158,6 +160,8 @@ impl Trial {
             let answer = table_answers::<I>(&table, lookups).pop();
             let as_said = answer == Some(Answer::Held(*held));
             ensure(as_said, || format!("{lookups:?} {answer:?}"))?;
+            let shown = self.shown::<I>(lookups);
+            ensure(shown == Ok(!held), || format!("{lookups:?} {shown:?}"))?;
         }
         for (produced, lists) in &self.same {
             let states = lists
@@ -188,6 +192,25 @@ impl Trial {
         let length = I::build(&self.query, &mut vec![0; scratch], &mut output)?;
         output.truncate(length);
         Ok(output)
+    }
+
+    /// Whether an implementation shows two rows for the orders and sets of some lookups,
+    /// or what is wrong.
+    fn shown<I: Implementation>(&self, lookups: &[Lookup]) -> Result<bool, String> {
+        let mut asked = Asked::default();
+        for lookup in lookups {
+            match lookup {
+                Lookup::Enter(produced) => asked.produced = *produced,
+                Lookup::Take(set) => asked.sets |= 1 << set,
+                Lookup::Ask(order) => asked.order = *order,
+            }
+        }
+        let before = [7; ROOM];
+        let mut rows = before;
+        let shown = I::counterexample(&self.query, asked, &mut rows);
+        let checked = counterexample::check(&self.query, asked, shown, &before, &rows);
+        checked.map_err(|wrong| format!("wrong {wrong:?}"))?;
+        shown.map_err(|refusal| format!("refused {refusal}"))
     }
 
     /// What verifying the supplied table gives with so much scratch.

@@ -6,7 +6,7 @@ use reference::derivation::start;
 use reference::lookups::{model_answers, table_answers, Answer, Lookup};
 use reference::model::Model;
 use reference::random::Random;
-use reference::rows::{obey, stand_in};
+use reference::rows::{obey_all, stand_in};
 use reference::samples::{self, Shape};
 use reference::{Dependency, Implementation, Query, Reference};
 
@@ -224,8 +224,7 @@ fn held_orders_hold_of_rows_that_stand_in_the_start_order_and_obey_the_sets() {
         for _ in 0..4 {
             let rows = samples::rows(&mut random, &query, start_order, model.sets(), 8);
             assert!(stand_in(&rows, start_order));
-            let mut dependencies = query.dependencies_of(model.sets());
-            assert!(dependencies.all(|dependency| obey(&rows, &dependency.rule)));
+            assert!(obey_all(&rows, query.dependencies_of(model.sets())));
             for (order, answer) in query.interesting().zip(&answers[moves..]) {
                 let true_of_rows = stand_in(&rows, order);
                 match answer {

@@ -33,10 +33,8 @@ fn a_pair_holds_what_its_sets_together_give_from_its_produced_order() {
         assert_eq!(pairs.states.len(), query.produced.len() * choices);
         for (number, pair) in pairs.states.iter().enumerate() {
             let (produced, choice) = (number / choices, number % choices);
-            let in_force = query
-                .dependencies
-                .iter()
-                .filter(|dependency| choice >> dependency.set & 1 == 1);
+            let sets = query.chosen(choice);
+            let in_force = query.dependencies_of(&sets);
             let orderings = closure(start(&query.produced[produced]), in_force);
             for (bit, order) in query.interesting().enumerate() {
                 let derived = orderings.contains(order);

@@ -7,7 +7,7 @@ use reference::buffers::SCRATCH_BYTES;
 use reference::builder::table_of;
 use reference::construction::of_pairs;
 use reference::trials::{self, repository, Trial};
-use reference::{table, verification, Implementation, Query, Reference};
+use reference::{counterexample, table, verification, Implementation, Query, Reference};
 
 /// The bytes of a file of the repository.
 fn file(path: &str) -> Vec<u8> {
@@ -122,26 +122,59 @@ fn the_example_tables_are_what_is_said_of_them() {
     assert_eq!(verified(query, &damaged), Err(13));
 }
 
+/// The words of each command that a section shows, with what it prints.
+fn commands(section: &str) -> Vec<(Vec<&str>, String)> {
+    let (_, shown) = section.split_once("\n```\n").expect("the block begins");
+    let (shown, _) = shown.split_once("\n```\n").expect("the block ends");
+    let mut commands: Vec<(Vec<&str>, String)> = Vec::new();
+    for line in shown.lines() {
+        match line.strip_prefix("$ ") {
+            Some(command) => commands.push((command.split(' ').collect(), String::new())),
+            None => {
+                let (_, printed) = commands.last_mut().expect("a command comes first");
+                printed.push_str(line);
+                printed.push('\n');
+            }
+        }
+    }
+    commands
+}
+
 #[test]
 fn the_readme_shows_how_the_example_tables_come_out() {
     let readme = document("README.md");
-    let shown = section(&readme, "A supplier's table on trial");
-    let (_, shown) = shown.split_once("\n```\n").expect("the block begins");
-    let (shown, _) = shown.split_once("\n```\n").expect("the block ends");
-    let mut lines = shown.lines();
-    let mut outcomes = Vec::new();
-    while let Some(command) = lines.next() {
-        match command.split(' ').collect::<Vec<_>>()[..] {
-            ["$", "target/bin/order_verify", query, table] => {
+    let commands = commands(section(&readme, "A supplier's table on trial"));
+    for (command, printed) in &commands {
+        match command[..] {
+            ["target/bin/order_verify", query, table] => {
                 let outcome = verification::printed(verified(query, table));
-                assert_eq!(lines.next(), outcome.lines().next(), "{command}");
-                outcomes.push(outcome);
+                assert_eq!(*printed, outcome, "{command:?}");
             }
-            _ => panic!("no command: {command}"),
+            _ => panic!("another command: {command:?}"),
         }
     }
+    let outcomes: Vec<&str> = commands.iter().map(|(_, printed)| &printed[..]).collect();
     let [accepted, refused] = ["accepted\n", "refused 13\n"];
     assert_eq!(outcomes, [accepted, accepted, accepted, refused]);
+}
+
+#[test]
+fn the_readme_shows_rows_that_break_the_order_and_where_there_are_none() {
+    let readme = document("README.md");
+    let commands = commands(section(&readme, "Two rows that show why a sort is needed"));
+    for (command, printed) in &commands {
+        match command[..] {
+            ["target/bin/order_counterexample", query, produced, sets, order] => {
+                let asked = [produced, sets, order].map(|number| number.parse::<u8>());
+                let asked = asked.map(|number| number.expect("a byte")).into();
+                let checked = counterexample::check_printed(&file(query), asked, printed);
+                assert_eq!(checked, Ok(()), "{command:?}");
+            }
+            _ => panic!("another command: {command:?}"),
+        }
+    }
+    let lines = commands.iter().map(|(_, printed)| printed.lines().count());
+    assert_eq!(lines.collect::<Vec<_>>(), [2, 1, 2, 1]);
 }
 
 #[test]

@@ -396,7 +396,7 @@ fn the_rows_of_a_trial_are_as_many_as_is_said_of_them() {
     };
     let bytes = table.write();
     for choice in 0..256 {
-        let sets: Vec<u8> = (0..8).filter(|set| choice >> set & 1 == 1).collect();
+        let sets = query.chosen(choice);
         let state = Reference::follow(&bytes, 0, &sets).expect("granted");
         assert_eq!(
             Reference::ask(&bytes, state, 1),

@@ -1,5 +1,5 @@
-//! The refusals of a query, of a build, of a listing and of a supplied table, and
-//! the buffers afterwards.
+//! The refusals of a query, of a build, of a listing, of a supplied table and of what
+//! is asked for two rows, and the buffers afterwards.
 
 use std::sync::LazyLock;
 
@@ -567,6 +567,94 @@ fn a_table_is_refused_for_its_form_then_its_sizes_then_its_answers() {
     }
     let no_answer = [1, 2, 2, 2, 0, 0, 0, 0, 0, 0];
     assert_eq!(verify_with(&EXAMPLE, &no_answer, SCRATCH_BYTES), Err(13));
+}
+
+/// Asks for two rows of a query in a buffer of so many bytes, full of marks, which
+/// must keep them past the rows, or all of them where none are given.
+fn ask_with(query: &[u8], asked: [u8; 3], room: usize) -> Result<bool, u8> {
+    let mut rows = vec![7; room];
+    let answer = Reference::counterexample(query, asked.into(), &mut rows);
+    let given = match answer {
+        Ok(true) => 2 * usize::from(query[0]),
+        _ => 0,
+    };
+    let (given, kept) = rows.split_at(given);
+    assert!(given.iter().all(|&value| value < 2), "{rows:?}");
+    assert!(kept.iter().all(|&byte| byte == 7), "{rows:?}");
+    answer
+}
+
+/// What is asked of the example: where two rows are given, and where there are none.
+const IN_THE_EXAMPLE: [([u8; 3], bool); 4] = [
+    ([0, 0, 2], true),
+    ([0, 1, 2], false),
+    ([1, 3, 0], true),
+    ([1, 2, 3], false),
+];
+
+/// What is asked of the example that is not in it: a produced order, an interesting
+/// order, or a set.
+const NOT_IN_THE_EXAMPLE: [[u8; 3]; 9] = [
+    [2, 0, 2],
+    [255, 0, 2],
+    [0, 0, 4],
+    [0, 0, 255],
+    [0, 4, 2],
+    [0, 5, 2],
+    [0, 128, 2],
+    [0, 255, 2],
+    [2, 4, 4],
+];
+
+#[test]
+fn a_query_refused_on_reading_is_refused_before_what_is_asked_of_it() {
+    let asked = IN_THE_EXAMPLE.map(|(asked, _)| asked);
+    for (query, number) in refused_on_reading() {
+        for asked in asked.iter().chain(&NOT_IN_THE_EXAMPLE) {
+            for room in [0, 1, 24, 2048] {
+                assert_eq!(ask_with(&query, *asked, room), Err(number), "{asked:?}");
+            }
+        }
+    }
+}
+
+#[test]
+fn an_order_or_a_set_that_is_not_in_the_query_gives_10_before_room() {
+    for asked in NOT_IN_THE_EXAMPLE {
+        for room in [0, 5, 6, 2048] {
+            assert_eq!(ask_with(&EXAMPLE, asked, room), Err(10), "{asked:?}");
+        }
+    }
+    // Every byte as a choice of sets, for every number of sets.
+    for sets in 0..=8 {
+        let query = samples::own_column_per_set(sets).write();
+        for choice in 0..=255 {
+            let answer = ask_with(&query, [0, choice, 0], 24);
+            let expected = match u32::from(choice) < 1 << sets {
+                true => Ok(false),
+                false => Err(10),
+            };
+            assert_eq!(answer, expected, "choice {choice} of {sets} sets");
+        }
+    }
+}
+
+#[test]
+fn room_for_fewer_than_two_rows_gives_9_rows_or_none() {
+    for (asked, given) in IN_THE_EXAMPLE {
+        for room in 0..6 {
+            assert_eq!(ask_with(&EXAMPLE, asked, room), Err(9), "{asked:?}");
+        }
+        for room in [6, 7, 24, 2048] {
+            assert_eq!(ask_with(&EXAMPLE, asked, room), Ok(given), "{asked:?}");
+        }
+    }
+    for columns in 1..=12 {
+        let query = one_order(columns, 0, [255; 4]);
+        let bytes = 2 * usize::from(columns);
+        assert_eq!(ask_with(&query, [0, 0, 0], bytes - 1), Err(9));
+        assert_eq!(ask_with(&query, [0, 0, 0], bytes), Ok(false));
+    }
 }
 
 #[test]

@@ -1,11 +1,10 @@
-//! The closure test gives what the derivation gives and what is true of rows: the
-//! three are compared with one another.
+//! The closure test gives what the derivation gives, and the columns that it goes by
+//! are those that columns settle.
 
 use std::collections::{BTreeSet, HashSet};
 
 use reference::derivation::{closure, start, steps, Ordering};
 use reference::random::Random;
-use reference::rows::{obey, stand_in, Row};
 use reference::samples::{self, all_orderings, Shape};
 use reference::settled::InForce;
 use reference::{trials, Dependency, Query, Rule};
@@ -18,21 +17,14 @@ const SIX_COLUMNS: Shape = Shape {
     ..Shape::CHAINS
 };
 
-/// The dependencies of a choice of sets, bit i for set i.
-fn under_choice(query: &Query, choice: usize) -> Vec<Dependency> {
-    let dependencies = query.dependencies.iter();
-    dependencies
-        .filter(|dependency| choice >> dependency.set & 1 == 1)
-        .cloned()
-        .collect()
-}
-
 /// Each produced order of a query with the dependencies of each choice of its sets.
 fn pairs(query: &Query) -> impl Iterator<Item = (&Ordering, Vec<Dependency>)> {
     let choices = 0..1usize << query.sets;
     choices.flat_map(move |choice| {
+        let sets = query.chosen(choice);
+        let dependencies: Vec<Dependency> = query.dependencies_of(&sets).cloned().collect();
         let produced = query.produced.iter();
-        produced.map(move |order| (order, under_choice(query, choice)))
+        produced.map(move |order| (order, dependencies.clone()))
     })
 }
 
@@ -92,116 +84,6 @@ fn the_closure_test_holds_exactly_the_derived_orderings() {
     }
     let enough = derived_orderings > 500_000 && others > 1_000_000 && gained > 3000;
     assert!(enough, "{derived_orderings} {others} {gained}");
-}
-
-/// All ways to have two rows of so many columns, each value 0 or 1.
-fn pairs_of_rows(columns: u8) -> Vec<[Row; 2]> {
-    let columns = usize::from(columns);
-    let row = |bits: usize| (0..columns).map(|c| (bits >> c & 1) as i64).collect();
-    (0..1 << (2 * columns))
-        .map(|bits: usize| [bits, bits >> columns].map(row))
-        .collect()
-}
-
-/// Whether rows obey all of some dependencies.
-fn obey_all(rows: &[Row], dependencies: &[Dependency]) -> bool {
-    let mut rules = dependencies.iter().map(|dependency| &dependency.rule);
-    rules.all(|rule| obey(rows, rule))
-}
-
-#[test]
-fn an_order_is_held_exactly_when_no_two_rows_of_0_and_1_break_it() {
-    let mut random = Random::new(12);
-    let (mut held, mut broken) = (0, 0);
-    for _ in 0..1000 {
-        let query = match random.below(4) {
-            0 => samples::query(&mut random, Shape::SMALL),
-            _ => samples::query_of_chains(&mut random, Shape::CHAINS),
-        };
-        let all = pairs_of_rows(query.columns);
-        for (produced, dependencies) in pairs(&query) {
-            let in_force = InForce::new(query.columns, &dependencies);
-            let rows = all
-                .iter()
-                .filter(|rows| stand_in(&rows[..], produced) && obey_all(&rows[..], &dependencies));
-            let rows: Vec<&[Row; 2]> = rows.collect();
-            for order in query.interesting() {
-                let stand = rows.iter().all(|rows| stand_in(&rows[..], order));
-                assert_eq!(
-                    in_force.holds(produced, order),
-                    stand,
-                    "{order:?} from {produced:?} under {dependencies:?}"
-                );
-                held += usize::from(stand);
-                broken += usize::from(!stand);
-            }
-        }
-    }
-    assert!(
-        held > 10_000 && broken > 10_000,
-        "{held} held, {broken} broken"
-    );
-}
-
-/// Two rows that stand in a produced order, obey what is in force and break an order
-/// that is not held. The test of the order stops at its last entry, so without that
-/// it is held. Both rows are 0 in the columns settled by the entries before. In the
-/// last entry's class the first row is larger, and in all other columns the second.
-fn breaking_rows(in_force: &InForce, columns: u8, order: &[u8]) -> [Row; 2] {
-    let (last, before) = order.split_last().expect("the empty order is held");
-    let settled = in_force.settled_by(before);
-    let class = in_force.class(*last);
-    let row = |in_class: i64| {
-        let value = |column: u8| match (settled.contains(&column), class.contains(&column)) {
-            (true, _) => 0,
-            (false, true) => in_class,
-            (false, false) => 1 - in_class,
-        };
-        (0..columns).map(value).collect()
-    };
-    [row(1), row(0)]
-}
-
-#[test]
-fn of_many_columns_two_rows_break_what_is_not_held_and_none_what_is() {
-    let mut random = Random::new(13);
-    let (mut held, mut broken) = (0, 0);
-    for _ in 0..1500 {
-        let query = match random.below(2) {
-            0 => samples::query(&mut random, Shape::FULL),
-            _ => samples::query_of_chains(&mut random, Shape::FULL),
-        };
-        let choice = random.below(1 << query.sets);
-        let dependencies = under_choice(&query, choice);
-        let in_force = InForce::new(query.columns, &dependencies);
-        let sets: Vec<u8> = (0..query.sets)
-            .filter(|set| choice >> set & 1 == 1)
-            .collect();
-        for produced in &query.produced {
-            let rows = samples::rows(&mut random, &query, produced, &sets, 6);
-            for order in query.interesting() {
-                let case = || format!("{order:?} from {produced:?} under {dependencies:?}");
-                if in_force.holds(produced, order) {
-                    assert!(stand_in(&rows, order), "{} {rows:?}", case());
-                    held += usize::from(rows.len() > 2);
-                    continue;
-                }
-                let held_beginning = (0..order.len())
-                    .rev()
-                    .find(|&length| in_force.holds(produced, &order[..length]));
-                let stopped = held_beginning.expect("the empty order is held") + 1;
-                let rows = breaking_rows(&in_force, query.columns, &order[..stopped]);
-                assert!(stand_in(&rows, produced), "{} {rows:?}", case());
-                assert!(obey_all(&rows, &dependencies), "{} {rows:?}", case());
-                assert!(!stand_in(&rows, order), "{} {rows:?}", case());
-                broken += 1;
-            }
-        }
-    }
-    assert!(
-        held > 3000 && broken > 20_000,
-        "{held} held, {broken} broken"
-    );
 }
 
 #[test]

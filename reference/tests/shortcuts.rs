@@ -11,7 +11,7 @@ use reference::derivation::{closure, start, steps, Ordering};
 use reference::lookups::{model_answers, table_answers, Answer, Lookup};
 use reference::merging::merged;
 use reference::random::Random;
-use reference::rows::{obey, stand_in};
+use reference::rows::{obey_all, stand_in};
 use reference::samples::{self, Shape};
 use reference::settled::InForce;
 use reference::table::{word, State, Table};
@@ -357,8 +357,7 @@ fn a_table_of_columns_kept_is_wrong_only_where_it_says_not_held() {
         let mut same = true;
         for produced in 0..query.produced.len() as u8 {
             for choice in 0..1 << query.sets {
-                let sets = (0..query.sets).filter(|set| choice >> set & 1 == 1);
-                let sets: Vec<u8> = sets.collect();
+                let sets = query.chosen(choice);
                 let [said, is_so] = [&kept, &own].map(|table| {
                     let table = table.write();
                     let state = Reference::follow(&table, produced, &sets);
@@ -399,8 +398,7 @@ fn a_pair_of_fixes_is_not_an_equal() {
 
     let rows = vec![vec![0, 1], vec![1, 0]];
     assert!(stand_in(&rows, &[a]));
-    let mut rules = query.dependencies.iter().map(|dependency| &dependency.rule);
-    assert!(rules.all(|rule| obey(&rows, rule)));
+    assert!(obey_all(&rows, &query.dependencies));
     assert!(!stand_in(&rows, &[b]));
 }
 
@@ -543,9 +541,7 @@ impl Fault {
         let choices = 1 << query.sets;
         for (number, state) in table.states.iter_mut().enumerate() {
             let (produced, choice) = (&query.produced[number / choices], number % choices);
-            let sets: Vec<u8> = (0..query.sets)
-                .filter(|set| choice >> set & 1 == 1)
-                .collect();
+            let sets = query.chosen(choice);
             let in_force: Vec<Dependency> = query.dependencies_of(&sets).cloned().collect();
             let held = query
                 .interesting()

@@ -35,7 +35,7 @@ fn model_answers(query: &Query) -> Vec<Vec<Vec<Result<bool, u8>>>> {
         let of_choice = |choice: usize| {
             let mut model = Model::new(query);
             model.enter(produced).expect("a produced order");
-            for set in (0..query.sets).filter(|set| choice >> set & 1 == 1) {
+            for set in query.chosen(choice) {
                 model.take(set).expect("a set");
             }
             orders.clone().map(|order| model.ask(order)).collect()

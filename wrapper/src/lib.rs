@@ -1,7 +1,7 @@
 //! Order tables for a planner in Rust: build the table of a query or put a
-//! supplier's on trial, look it up, list it. All of it is done by the proved
-//! library; here its numbers become types, so that a set can't be passed as a
-//! state.
+//! supplier's on trial, look it up, list it, and show two rows where an order is not
+//! held. All of it is done by the proved library; here its numbers become types, so
+//! that a set can't be passed as a state.
 //!
 //! A set that is taken stays in force: what holds is what all sets taken since the
 //! entry give together. So a planner may take its sets in any order, and taking one
@@ -37,6 +37,8 @@ pub const LONGEST_QUERY: usize = 5 + 32 * 5;
 pub const LONGEST_TABLE: usize = 4 + 8 + 128 * 8 + 128 * 2;
 /// Bytes that are enough for every listing.
 pub const LISTING_BYTES: usize = 7547;
+/// Bytes that are enough for two rows of every query: 12 columns each.
+pub const TWO_ROWS_BYTES: usize = 2 * 12;
 
 /// An interesting order: the produced ones count first, then the tested ones.
 #[derive(Clone, Copy, Debug, PartialEq, Eq, Hash, PartialOrd, Ord)]
@@ -45,6 +47,10 @@ pub struct OrderHandle(pub u8);
 /// A set of dependencies.
 #[derive(Clone, Copy, Debug, PartialEq, Eq, Hash, PartialOrd, Ord)]
 pub struct SetHandle(pub u8);
+
+/// A choice of sets in force: bit i is set i.
+#[derive(Clone, Copy, Debug, PartialEq, Eq, Hash, PartialOrd, Ord)]
+pub struct SetChoice(pub u8);
 
 /// A state of a table, which is one of its rows. A plan node carries one.
 #[derive(Clone, Copy, Debug, PartialEq, Eq, Hash, PartialOrd, Ord)]
@@ -92,6 +98,47 @@ pub fn build(query: &[u8], scratch: &mut [u8], output: &mut [u8]) -> Result<usiz
 /// afterwards as [`build`] leaves it.
 pub fn verify(query: &[u8], table: Table, scratch: &mut [u8]) -> Result<(), Refusal> {
     granted(raw::table_verify(query, table.bytes, scratch))
+}
+
+/// Two rows that show why an order is not held, each with a value, 0 or 1, for every
+/// column of the query.
+#[derive(Clone, Copy, Debug, PartialEq, Eq)]
+pub struct TwoRows<'a> {
+    /// The row that comes first.
+    pub first: &'a [u8],
+    /// The row behind it. In the order looked for it compares below the first one.
+    pub second: &'a [u8],
+}
+
+/// Shows why an interesting order is not held of rows in a produced order under a
+/// choice of sets in force: gives two rows that stand in the produced order, obey every
+/// dependency of the sets and do not stand in the order looked for. They are given
+/// exactly when the derivation rules do not give the order, which is when
+/// [`Table::ask`] says not held after that entry and those sets, or would say so in a
+/// table with no limit on its rows. Otherwise there are none, and all rows that stand in
+/// the produced order and obey the sets stand in the order looked for.
+///
+/// Which two rows are given is not fixed. They are written into the first bytes of
+/// `rows`, of which [`TWO_ROWS_BYTES`] are always enough; the others keep theirs, and
+/// all do when there are none and on refusal. No scratch is needed, and
+/// [`Refusal::States`] never comes.
+///
+/// Refuses the query with 1 to 6; then with [`Refusal::Handle`] for an order or a chosen
+/// set that is not in the query; then with [`Refusal::Space`] for `rows` shorter than two
+/// rows of the query, whether there are two or none.
+pub fn counterexample<'a>(
+    query: &[u8],
+    produced: OrderHandle,
+    sets: SetChoice,
+    order: OrderHandle,
+    rows: &'a mut [u8],
+) -> Result<Option<TwoRows<'a>>, Refusal> {
+    let shown = raw::query_counterexample(query, produced.0, sets.0, order.0, rows);
+    let shown = value(shown)? == 1;
+    let columns = query[0].into();
+    let (first, behind) = rows.split_at(columns);
+    let second = &behind[..columns];
+    Ok(shown.then_some(TwoRows { first, second }))
 }
 
 /// Writes the listing of a query, or the line that says how it is refused with 1

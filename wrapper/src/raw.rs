@@ -8,6 +8,15 @@ extern "C" {
     fn order_query_check(query: *const u8, length: usize) -> u32;
     fn order_query_order(query: *const u8, length: usize, i: u8) -> u64;
     fn order_query_dependency(query: *const u8, length: usize, i: u8) -> u64;
+    fn order_query_counterexample(
+        query: *const u8,
+        query_length: usize,
+        produced: u8,
+        sets: u8,
+        order: u8,
+        rows: *mut u8,
+        rows_length: usize,
+    ) -> u32;
     fn order_table_build(
         query: *const u8,
         query_length: usize,
@@ -69,6 +78,28 @@ pub fn query_order(query: &[u8], i: u8) -> u64 {
 /// byte, its kind in the next one, then its columns, a byte each.
 pub fn query_dependency(query: &[u8], i: u8) -> u64 {
     unsafe { order_query_dependency(query.as_ptr(), query.len(), i) }
+}
+
+/// Writing two rows that show why an interesting order is not held into the buffer's
+/// first bytes: 1 where they are written, 0 where there are none.
+pub fn query_counterexample(
+    query: &[u8],
+    produced: u8,
+    sets: u8,
+    order: u8,
+    rows: &mut [u8],
+) -> u32 {
+    unsafe {
+        order_query_counterexample(
+            query.as_ptr(),
+            query.len(),
+            produced,
+            sets,
+            order,
+            rows.as_mut_ptr(),
+            rows.len(),
+        )
+    }
 }
 
 /// Building a query's table into the output's first bytes: the table's length.

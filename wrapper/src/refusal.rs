@@ -22,9 +22,9 @@ pub enum Refusal {
     Orderings,
     /// The smallest table has more than 128 rows.
     States,
-    /// Scratch below 16,384 bytes, or output or text too short.
+    /// Scratch below 16,384 bytes, or output, text or rows too short.
     Space,
-    /// State, produced order, set or interesting order not in the table.
+    /// State, produced order, set or interesting order not in the table or the query.
     Handle,
     /// A start or successor not below Q, or a held bit past P+T.
     Row,

@@ -1,9 +1,10 @@
 //! The types on the listing's example, and on trials that are refused or have a
 //! supplier's table.
 
-use order_tables::{build, list, verify};
-use order_tables::{HeldWord, OrderHandle, Refusal, SetHandle, StateNumber, Table};
-use order_tables::{LISTING_BYTES, LONGEST_TABLE, SCRATCH_BYTES};
+use order_tables::{build, counterexample, list, verify};
+use order_tables::{HeldWord, OrderHandle, Refusal, SetChoice, SetHandle, StateNumber, Table};
+use order_tables::{LISTING_BYTES, LONGEST_TABLE, SCRATCH_BYTES, TWO_ROWS_BYTES};
+use reference::counterexample::check;
 use reference::trials;
 
 fn build_in(query: &[u8], scratch: usize, output: usize) -> Result<usize, Refusal> {
@@ -143,6 +144,57 @@ fn verifies() {
     assert_eq!(verify_in(&example.query, &example.table, 16_383), Err(9));
     assert_eq!(verify_in(&example.query, &[], 16_384), Err(1));
     assert_eq!(verify_in(&[], &example.table, 0), Err(1));
+}
+
+/// Asks for two rows of a query in a buffer of so many bytes, and gives whether they
+/// come. They must be the buffer's first bytes, and right.
+fn shown_in(query: &[u8], asked: [u8; 3], room: usize) -> Result<bool, Refusal> {
+    let [produced, sets, order] = asked;
+    let (produced, order) = (OrderHandle(produced), OrderHandle(order));
+    let before = vec![7; room];
+    let mut rows = before.clone();
+    let given = counterexample(query, produced, SetChoice(sets), order, &mut rows);
+    let given = given.map(|two| two.map(|two| [two.first, two.second].concat()));
+    if let Ok(Some(given)) = &given {
+        assert_eq!(given, &rows[..2 * usize::from(query[0])]);
+    }
+    let shown = given.map(|given| given.is_some());
+    let answer = shown.map_err(Refusal::number);
+    let checked = check(query, asked.into(), answer, &before, &rows);
+    assert_eq!(checked, Ok(()), "{asked:?} {shown:?} {rows:?}");
+    shown
+}
+
+#[test]
+fn shows_two_rows() {
+    let query = trials::example().query;
+    // (a) and (b,a) are produced, (a,b) and (c) tested; set 0 brings a → b, and set 1
+    // brings b = c.
+    for (asked, shown) in [
+        ([0, 0, 2], true),
+        ([0, 1, 2], false),
+        ([0, 2, 2], true),
+        ([1, 1, 3], true),
+        ([1, 2, 3], false),
+    ] {
+        assert_eq!(shown_in(&query, asked, 5), Err(Refusal::Space), "{asked:?}");
+        for room in [6, 7, TWO_ROWS_BYTES] {
+            assert_eq!(shown_in(&query, asked, room), Ok(shown), "{asked:?}");
+        }
+    }
+    for asked in [[2, 0, 2], [0, 4, 2], [0, 0, 4]] {
+        assert_eq!(
+            shown_in(&query, asked, 0),
+            Err(Refusal::Handle),
+            "{asked:?}"
+        );
+    }
+    assert_eq!(shown_in(&[], [2, 4, 4], 0), Err(Refusal::Length));
+
+    // A query that is refused with 8 and has no table.
+    let query = trials::named("eight_sets").query;
+    assert_eq!(shown_in(&query, [0, 255, 8], TWO_ROWS_BYTES), Ok(false));
+    assert_eq!(shown_in(&query, [0, 127, 8], TWO_ROWS_BYTES), Ok(true));
 }
 
 #[test]

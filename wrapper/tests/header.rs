@@ -1,7 +1,8 @@
 //! The wrapper declares the functions that the header declares, with the same
 //! parameters and results, and has its refusals and sizes.
 
-use order_tables::{Refusal, LISTING_BYTES, LONGEST_QUERY, LONGEST_TABLE, SCRATCH_BYTES};
+use order_tables::{Refusal, LISTING_BYTES, LONGEST_QUERY, LONGEST_TABLE};
+use order_tables::{SCRATCH_BYTES, TWO_ROWS_BYTES};
 
 const HEADER: &str = include_str!("../../include/order_tables.h");
 const RAW: &str = include_str!("../src/raw.rs");
@@ -105,6 +106,7 @@ fn the_header_and_the_wrapper_have_the_same_sizes() {
         ("LONGEST_QUERY", LONGEST_QUERY),
         ("LONGEST_TABLE", LONGEST_TABLE),
         ("LISTING", LISTING_BYTES),
+        ("TWO_ROWS", TWO_ROWS_BYTES),
     ];
     let expected = expected.map(|(name, size)| (name.to_owned(), size));
     assert_eq!(enumerated("order_table_sizes"), expected);

@@ -1,7 +1,9 @@
 //! Samples to try implementations on: random queries, tables, lists of lookups
-//! and rows, bytes that are close to a query or a table and bytes that are far
-//! from it, queries at the limits, and tables that a supplier may send.
+//! and rows, what is asked of a query, bytes that are close to a query or a table
+//! and bytes that are far from it, queries at the limits, and tables that a supplier
+//! may send.
 
+mod asked;
 mod bytes;
 mod lookups;
 mod queries;
@@ -9,6 +11,7 @@ mod rows;
 mod supplied;
 mod tables;
 
+pub use asked::{all_asked, asked, rooms};
 pub use bytes::{
     any_bytes, assorted_bytes, choices, damaged, each_byte_changed, of_nearly_this_length,
 };
