@@ -12,17 +12,16 @@ use Rattle.theory.specs.Refusals.{passed}
 use Rattle.theory.specs.Query.{Bytes, orderCount, orderAt, readQuery, queryRefusal}
 use Rattle.theory.specs.Table.{number}
 use Rattle.theory.specs.Scratch.{wordAt}
-use Rattle.settled.specs.Masks.{StandFor, ClassesOf}
+use Rattle.settled.specs.Masks.{Prepared}
 
--- The query passed checks 1 to 6; the pairs of masks stand for the rules, and the classes are theirs.
-pub record InForce (b : Bytes) (rs : List Rule) (left right : List ℕ) (n : ℕ) (classes : List ℕ) : Type 0 where
+-- The query passed checks 1 to 6, and the test is prepared for the rules.
+pub record InForce (b : Bytes) (rs : List Rule) (left right : List ℕ) (n start : ℕ) (classes : List ℕ) : Type 0 where
   pub checked : queryRefusal b ≡ passed
   pub few : n ≤ 32
   pub left-length : length left ≡ 32
   pub right-length : length right ≡ 32
   pub classes-length : length classes ≡ 16
-  pub rules : StandFor rs left right n
-  pub alike : ClassesOf rs classes
+  pub prepared : Prepared rs left right n start classes
 
 -- Which interesting orders are held from produced order p under the rules.
 abbrev pub heldBits : Bytes → List Rule → ℕ → List Bool

@@ -17,9 +17,17 @@ fn with_bit(word: u16, b: bool) -> u16
 }
 
 // The held bits of produced order p, from the last order down.
-pub fn word(query: &[u8], left: &[u16], right: &[u16], n: usize, classes: &[u16], p: u8) -> u16
-    requires { ⌜ ((rs : List Rule) × InForce (now query) rs (now left) (now right) n (now classes)) × (p < producedCount (now query)) ⌝ }
-    ensures { λ r. ⌜ ((rs : List Rule) → InForce (now (query .entry)) rs (now (left .entry)) (now (right .entry)) n (now (classes .entry)) → r ≡ number (heldBits (now (query .entry)) rs p)) ⌝ }
+pub fn word(
+    query: &[u8],
+    left: &[u16],
+    right: &[u16],
+    n: usize,
+    start: u16,
+    classes: &[u16],
+    p: u8,
+) -> u16
+    requires { ⌜ ((rs : List Rule) × InForce (now query) rs (now left) (now right) n start (now classes)) × (p < producedCount (now query)) ⌝ }
+    ensures { λ r. ⌜ ((rs : List Rule) → InForce (now (query .entry)) rs (now (left .entry)) (now (right .entry)) n start (now (classes .entry)) → r ≡ number (heldBits (now (query .entry)) rs p)) ⌝ }
 {
     let produced = query::order(query, p);
     let mut word: u16 = 0;
@@ -27,7 +35,10 @@ pub fn word(query: &[u8], left: &[u16], right: &[u16], n: usize, classes: &[u16]
     while 0 < i {
         i -= 1;
         let order = query::order(query, i);
-        word = with_bit(word, test::held(left, right, n, classes, produced, order));
+        word = with_bit(
+            word,
+            test::held(left, right, n, start, classes, produced, order),
+        );
     }
     word
 }

@@ -1,7 +1,7 @@
 // Every produced order under every choice of sets in force: the word of the interesting orders that are held, in its place in the scratch.
 mod held;
 
-use settled::pairs;
+use settled::test;
 ghost use mathlib.Core.Path.{_≡_};
 ghost use Prim.Native.Nat.{_+_, _^_, _≤_, _<_};
 ghost use lib.ListN.{length};
@@ -17,16 +17,17 @@ fn settle_pair(
     left: &[u16],
     right: &[u16],
     n: usize,
+    start: u16,
     classes: &[u16],
     work: &mut [u8],
     x: u8,
     p: u8,
 )
-    requires { ⌜ InForce (now query) (rulesAt (now query) x) (now left) (now right) n (now classes) × WordsTo (now query) (now work) x p × (x < 2 ^ readQuery (now query) .sets) × (p < producedCount (now query)) × (workLength ≤ length (now work)) ⌝ }
+    requires { ⌜ InForce (now query) (rulesAt (now query) x) (now left) (now right) n start (now classes) × WordsTo (now query) (now work) x p × (x < 2 ^ readQuery (now query) .sets) × (p < producedCount (now query)) × (workLength ≤ length (now work)) ⌝ }
     ensures { λ r. ⌜ WordsTo (now (query .entry)) (now (work .exit)) x (p + 1) × (length (now (work .exit)) ≡ length (now (work .entry))) ⌝ }
 {
     let sets = query::sets(query) as usize;
-    let word = held::word(query, left, right, n, classes, p);
+    let word = held::word(query, left, right, n, start, classes, p);
     pair_words::write(work, sets, p as usize, x as usize, word);
 }
 
@@ -36,17 +37,18 @@ fn settle_orders(
     left: &[u16],
     right: &[u16],
     n: usize,
+    start: u16,
     classes: &[u16],
     work: &mut [u8],
     x: u8,
 )
-    requires { ⌜ InForce (now query) (rulesAt (now query) x) (now left) (now right) n (now classes) × WordsBelow (now query) (now work) x × (x < 2 ^ readQuery (now query) .sets) × (workLength ≤ length (now work)) ⌝ }
+    requires { ⌜ InForce (now query) (rulesAt (now query) x) (now left) (now right) n start (now classes) × WordsBelow (now query) (now work) x × (x < 2 ^ readQuery (now query) .sets) × (workLength ≤ length (now work)) ⌝ }
     ensures { λ r. ⌜ WordsBelow (now (query .entry)) (now (work .exit)) (x + 1) × (length (now (work .exit)) ≡ length (now (work .entry))) ⌝ }
 {
     let produced = query::produced(query);
     let mut p: u8 = 0;
     while p < produced {
-        settle_pair(query, left, right, n, classes, work, x, p);
+        settle_pair(query, left, right, n, start, classes, work, x, p);
         p += 1;
     }
 }
@@ -59,9 +61,10 @@ fn settle_choice(query: &[u8], work: &mut [u8], x: u8)
     let mut left = [0u16; 32];
     let mut right = [0u16; 32];
     let mut classes = [0u16; 16];
-    pairs::classes(query, x, &mut left, &mut right, &mut classes);
-    let n = pairs::rules(query, x, &mut left, &mut right);
-    settle_orders(query, &left, &right, n, &classes, work, x);
+    let ready = test::prepare(query, x, &mut left, &mut right, &mut classes);
+    let n = ready.pairs;
+    let start = ready.start;
+    settle_orders(query, &left, &right, n, start, &classes, work, x);
 }
 
 // The held word of every pair.

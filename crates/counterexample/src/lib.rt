@@ -4,7 +4,6 @@ mod rows;
 
 use numbers::refusals;
 use settled::Tested;
-use settled::pairs;
 use settled::test;
 ghost use mathlib.Core.Path.{_≡_};
 ghost use Prim.Native.Nat.{_*_, _≤_, _<_};
@@ -46,11 +45,12 @@ fn tested(query: &[u8], produced: u8, sets: u8, order: u8) -> Tested
     let mut left = [0u16; 32];
     let mut right = [0u16; 32];
     let mut classes = [0u16; 16];
-    pairs::classes(query, sets, &mut left, &mut right, &mut classes);
-    let n = pairs::rules(query, sets, &mut left, &mut right);
+    let ready = test::prepare(query, sets, &mut left, &mut right, &mut classes);
+    let n = ready.pairs;
+    let start = ready.start;
     let p = query::order(query, produced);
     let o = query::order(query, order);
-    test::test(&left, &right, n, &classes, p, o)
+    test::test(&left, &right, n, start, &classes, p, o)
 }
 
 // Two rows where the test stops, and none where the order is held.

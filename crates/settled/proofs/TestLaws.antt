@@ -23,7 +23,7 @@ use Rattle.theory.proofs.SettledLaws.{settled-through, says-settled}
 use Rattle.theory.proofs.CounterexampleLaws.{Past, past-none, past-more, past-both, past-front, past-met, value, row, stop-at, stop-pair}
 use Rattle.settled.specs.declared.Tested.{Tested}
 use Rattle.settled.specs.declared.Tested.the-variants as tested
-use Rattle.settled.specs.Masks.{StandFor, SettledMask, ClassesOf}
+use Rattle.settled.specs.Masks.{StandFor, SettledMask, ClassesOf, Prepared}
 use Rattle.settled.specs.Ends.{valueIn, rowBy, Ends}
 use Rattle.settled.specs.Parts.{Skipped, meets, Closes}
 use Rattle.settled.proofs.MaskLaws.{says-both, mask-none}
@@ -199,44 +199,46 @@ module _ (rs : List Rule) (p o : Order) where
   testing-skips to (suc n) i e t k =
       testing-skips to n (suc i) (omega arith) (testing-passes t (omega (arith, k .within)) (k .passed i (omega arith) (omega arith))) (skipped-next k (omega arith))
 
--- The same under all rules for which the pairs stand and whose classes these are.
-abbrev pub Midway : List ℕ → List ℕ → ℕ → List ℕ → Order → Order → ℕ → ℕ → ℕ → Type 0
-Midway left right n classes p o i j m = (rs : List Rule) → StandFor rs left right n → ClassesOf rs classes → Testing rs p o i j m
+-- The same under all rules for which the test is prepared.
+abbrev pub Midway : List ℕ → List ℕ → ℕ → ℕ → List ℕ → Order → Order → ℕ → ℕ → ℕ → Type 0
+Midway left right n start classes p o i j m = (rs : List Rule) → Prepared rs left right n start classes → Testing rs p o i j m
 
 -- The test ends so, under all these rules.
-abbrev pub Ended : List ℕ → List ℕ → ℕ → List ℕ → Order → Order → Tested → Type 0
-Ended left right n classes p o r = (rs : List Rule) → StandFor rs left right n → ClassesOf rs classes → Ends rs p o r
+abbrev pub Ended : List ℕ → List ℕ → ℕ → ℕ → List ℕ → Order → Order → Tested → Type 0
+Ended left right n start classes p o r = (rs : List Rule) → Prepared rs left right n start classes → Ends rs p o r
 
-module _ (left right : List ℕ) (n : ℕ) (classes : List ℕ) (p o : Order) where
-  -- the test begins, behind the entries that no columns settle
-  pub midway-begins : (m i : ℕ) → Closes left right n 0 m → Skipped m o 0 i → Midway left right n classes p o i 0 m
-  midway-begins m i closes k rs f cs =
-      testing-skips rs p o i i 0 (omega arith)
-      (testing-begins rs p o m (closes rs [] f (λ c h. among (says-true (mask-none c) h)) (λ c h. absurd (List·Memᴰ·not-nil h)))) k
+-- closed from nothing, a mask has what no columns settle
+pub closes-none : (left right : List ℕ) (n m : ℕ) → Closes left right n 0 m → (rs : List Rule) → StandFor rs left right n → SettledMask rs [] m
+closes-none left right n m closes rs f = closes rs [] f (λ c h. among (says-true (mask-none c) h)) (λ c h. absurd (List·Memᴰ·not-nil h))
 
-  module _ (i j m : ℕ) (t : Midway left right n classes p o i j m) where
+module _ (left right : List ℕ) (n start : ℕ) (classes : List ℕ) (p o : Order) where
+  -- the test begins, behind the entries that are settled from the start
+  pub midway-begins : (i : ℕ) → Skipped start o 0 i → Midway left right n start classes p o i 0 start
+  midway-begins i k rs f = testing-skips rs p o i i 0 (omega arith) (testing-begins rs p o start (f .settled)) k
+
+  module _ (i j m : ℕ) (t : Midway left right n start classes p o i j m) where
     -- no entry is left
-    pub midway-end : length o ≤ i → Ended left right n classes p o tested.Held
-    midway-end h rs f cs = t rs f cs .rest ∙ ap (heldBehind rs (columns (take i o)) (drop j p)) (drop-of-length-le o {i = i} h)
+    pub midway-end : length o ≤ i → Ended left right n start classes p o tested.Held
+    midway-end h rs f = t rs f .rest ∙ ap (heldBehind rs (columns (take i o)) (drop j p)) (drop-of-length-le o {i = i} h)
 
     module _ (h : i < length o) (unsettled : inMask m (getD o i 0) ≡ false) (narrow : getD o i 0 < 16) (k : ℕ) (skipped : Skipped m p j k) where
       -- an entry is not met
-      pub midway-fails : false ≡ meets classes (getD o i 0) p k → Ended left right n classes p o (tested.Stopped m (getD classes (getD o i 0) 0))
-      midway-fails e rs f cs = testing-fails rs p o (t rs f cs) h unsettled narrow skipped classes cs (sym e)
+      pub midway-fails : false ≡ meets classes (getD o i 0) p k → Ended left right n start classes p o (tested.Stopped m (getD classes (getD o i 0) 0))
+      midway-fails e rs f = testing-fails rs p o (t rs f) h unsettled narrow skipped classes (f .alike) (sym e)
 
       module _ (e : true ≡ meets classes (getD o i 0) p k) where
         -- the last entry is met
-        pub midway-last : i + 1 ≡ length o → Ended left right n classes p o tested.Held
-        midway-last last rs f cs =
-            testing-meets rs p o (t rs f cs) h unsettled narrow skipped classes cs true (sym e) ∙ ap (heldBehind rs (columns (take (suc i) o)) (drop (suc k) p)) (drop-of-length-le o {i = suc i} (omega arith))
+        pub midway-last : i + 1 ≡ length o → Ended left right n start classes p o tested.Held
+        midway-last last rs f =
+            testing-meets rs p o (t rs f) h unsettled narrow skipped classes (f .alike) true (sym e) ∙ ap (heldBehind rs (columns (take (suc i) o)) (drop (suc k) p)) (drop-of-length-le o {i = suc i} (omega arith))
 
         -- an entry is met and others follow, of which those that are settled now are passed over
-        pub midway-next : (r to : ℕ) → Closes left right n (bitOr m (2 ^ getD o i 0)) r → Skipped r o (i + 1) to → Midway left right n classes p o to (k + 1) r
-        midway-next r to closes s rs f cs =
+        pub midway-next : (r to : ℕ) → Closes left right n (bitOr m (2 ^ getD o i 0)) r → Skipped r o (i + 1) to → Midway left right n start classes p o to (k + 1) r
+        midway-next r to closes s rs f =
             let met : Testing rs p o (suc i) (suc k) r =
             record {
-              mask = rw (columns-more o i h) (mask-grows m (t rs f cs .mask) (getD o i 0) r f closes);
-              rest = testing-meets rs p o (t rs f cs) h unsettled narrow skipped classes cs true (sym e);
-              past = past-meets rs p o (t rs f cs) h unsettled narrow skipped classes cs (meets-there classes (getD o i 0) p k e) (sym e);
+              mask = rw (columns-more o i h) (mask-grows m (t rs f .mask) (getD o i 0) r (f .rules) closes);
+              rest = testing-meets rs p o (t rs f) h unsettled narrow skipped classes (f .alike) true (sym e);
+              past = past-meets rs p o (t rs f) h unsettled narrow skipped classes (f .alike) (meets-there classes (getD o i 0) p k e) (sym e);
             } in
             rw (add-one k) (testing-skips rs p o to (to - suc i) (suc i) (omega (arith, s .forth)) met (rw (add-one i) at s))

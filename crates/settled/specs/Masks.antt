@@ -2,7 +2,7 @@
 use Prim.Native.Nat.{ℕ, _<_}
 use mathlib.Core.Path.{_≡_}
 use mathlib.Core.Bool.{true}
-use mathlib.Core.List.{List, List·Memᴰ}
+use mathlib.Core.List.{List, [], List·Memᴰ}
 use lib.ListN.{getD}
 use Rattle.theory.specs.Tests.{Says, bitsOf, inMask, Inside}
 use Rattle.theory.specs.Orders.{Rule, fix, Same}
@@ -31,6 +31,12 @@ SettledMask rs w m = (c : ℕ) → Says (Settled rs w c) (inMask m c)
 -- Mask c has exactly the columns that are alike to column c.
 abbrev pub ClassesOf : List Rule → List ℕ → Type 0
 ClassesOf rs classes = (c x : ℕ) → c < 16 → inMask (getD classes c 0) x ≡ alike rs c x
+
+-- What the test is given stands for the rules: the pairs of masks, the mask of the columns that are settled from the start, as no columns settle them, and the classes.
+pub record Prepared (rs : List Rule) (left right : List ℕ) (n start : ℕ) (classes : List ℕ) : Type 0 where
+  pub rules : StandFor rs left right n
+  pub settled : SettledMask rs [] start
+  pub alike : ClassesOf rs classes
 
 -- The rules in force of a query's bytes under the choice with a number.
 abbrev pub rulesAt : Bytes → ℕ → List Rule

@@ -1,10 +1,16 @@
 // The closure test: whether an order is held, on sets of columns as masks and rules as pairs of masks.
 mod close;
 mod masks;
-pub mod pairs;
+mod pairs;
 pub mod test;
 
 pub use masks::has;
+
+// What the test is given beside the masks themselves: how many pairs of masks there are, and the columns that are settled from the start, as no columns settle them.
+pub struct Ready {
+    pub pairs: usize,
+    pub start: u16,
+}
 
 // How the test ends: the order is held, or the test stops at an entry. Then it hands out the mask of the columns that the entries before settle and that of the entry's
 // class.

@@ -1,6 +1,7 @@
 // The dependencies in force under a choice of sets, as pairs of masks. Bit s of a choice's number says whether set s is in force.
 use crate::close;
 use crate::masks;
+use numbers::limits;
 use orders::Order;
 use orders::Rule;
 ghost use mathlib.Core.Path.{_≡_};
@@ -68,7 +69,7 @@ fn add_rule(left: &mut [u16], right: &mut [u16], n: usize, rule: Rule, only: boo
     }
 }
 
-// The pairs of dependency i behind the first n, if its set is in force. The count of all.
+// The pairs of dependency i behind the first n, if its set is in force. The count of all. Its head alone tells the set, and the rest is read only where that is in force.
 fn add(
     query: &[u8],
     x: u8,
@@ -81,11 +82,12 @@ fn add(
     requires { ⌜ (queryRefusal (now query) ≡ passed) × (i < dependencyCount (now query)) × (n + 2 ≤ length (now left)) × (n + 2 ≤ length (now right)) ⌝ }
     ensures { λ r. ⌜ Adding (arrowsAt only (now (query .entry)) x i) (now (left .entry)) (now (right .entry)) n (now (left .exit)) (now (right .exit)) r ⌝ }
 {
-    let dependency = query::dependency(query, i);
-    let set = dependency.set;
+    let at = query::bytes::order_count(query) + i as u16;
+    let set = query::bytes::head(query, at) % limits::KIND_UNIT;
     if (x as u16 >> set) % 2 != 1 {
         return n;
     }
+    let dependency = query::dependency(query, i);
     let rule = dependency.rule;
     add_rule(left, right, n, rule, only)
 }

@@ -1,16 +1,20 @@
-// The closure test. It reads the pairs and classes alone, no query, and closes a mask at the start and once for each entry that is used up but the last.
+// The closure test. It reads the pairs, the mask at the start and the classes alone, no query, and closes a mask once for each entry that is used up but the last.
+use crate::Ready;
 use crate::Tested;
 use crate::close;
 use crate::masks;
+use crate::pairs;
 use orders::Order;
 ghost use mathlib.Core.Path.{_≡_};
 ghost use mathlib.Core.List.{List};
 ghost use Prim.Native.Nat.{_≤_, _<_};
 ghost use lib.ListN.{length};
 ghost use Rattle.theory.specs.Orders.{Rule};
+ghost use Rattle.theory.specs.Refusals.{passed};
+ghost use Rattle.theory.specs.Query.{queryRefusal};
 ghost use Rattle.theory.specs.Settled.{isHeld};
 ghost use Rattle.orders.specs.Orders.{orderOf};
-ghost use Rattle.settled.specs.Masks.{Narrow, StandFor, ClassesOf};
+ghost use Rattle.settled.specs.Masks.{Narrow, Prepared, rulesAt};
 ghost use Rattle.settled.specs.Ends.{Ends};
 ghost use Rattle.settled.specs.Parts.{Skipped, meets};
 
@@ -42,14 +46,39 @@ fn meets(classes: &[u16], c: u8, p: Order, at: usize) -> bool
     }
 }
 
+// What the test is given for the rules in force under choice x.
+pub fn prepare(
+    query: &[u8],
+    x: u8,
+    left: &mut [u16],
+    right: &mut [u16],
+    classes: &mut [u16],
+) -> Ready
+    requires { ⌜ (queryRefusal (now query) ≡ passed) × (length (now left) ≡ 32) × (length (now right) ≡ 32) × (length (now classes) ≡ 16) ⌝ }
+    ensures { λ r. ⌜ Prepared (rulesAt (now (query .entry)) x) (now (left .exit)) (now (right .exit)) (r .pairs) (r .start) (now (classes .exit)) × (r .pairs ≤ 32) × (length (now (left .exit)) ≡ 32) × (length (now (right .exit)) ≡ 32) × (length (now (classes .exit)) ≡ 16) ⌝ }
+{
+    pairs::classes(query, x, left, right, classes);
+    let pairs = pairs::rules(query, x, left, right);
+    let start = close::close(left, right, pairs, 0);
+    Ready { pairs, start }
+}
+
 // The test of order o against the produced order p. An entry of o that is settled by those before it is passed over; any other uses up the first entry of what is left of p
 // that is not settled, which has to be alike.
-pub fn test(left: &[u16], right: &[u16], n: usize, classes: &[u16], p: Order, o: Order) -> Tested
+pub fn test(
+    left: &[u16],
+    right: &[u16],
+    n: usize,
+    start: u16,
+    classes: &[u16],
+    p: Order,
+    o: Order,
+) -> Tested
     requires { ⌜ (n ≤ length (now left)) × (n ≤ length (now right)) × (length (now classes) ≡ 16) × Narrow (orderOf p) × Narrow (orderOf o) ⌝ }
-    ensures { λ r. ⌜ ((rs : List Rule) → StandFor rs (now (left .entry)) (now (right .entry)) n → ClassesOf rs (now (classes .entry)) → Ends rs (orderOf p) (orderOf o) r) ⌝ }
+    ensures { λ r. ⌜ ((rs : List Rule) → Prepared rs (now (left .entry)) (now (right .entry)) n start (now (classes .entry)) → Ends rs (orderOf p) (orderOf o) r) ⌝ }
 {
     let m = orders::length(o);
-    let mut mask = close::close(left, right, n, 0);
+    let mut mask = start;
     let mut i = unsettled(o, 0, mask);
     let mut j = 0;
     while i < m {
@@ -72,11 +101,19 @@ pub fn test(left: &[u16], right: &[u16], n: usize, classes: &[u16], p: Order, o:
 }
 
 // Whether order o is held from the produced order p.
-pub fn held(left: &[u16], right: &[u16], n: usize, classes: &[u16], p: Order, o: Order) -> bool
+pub fn held(
+    left: &[u16],
+    right: &[u16],
+    n: usize,
+    start: u16,
+    classes: &[u16],
+    p: Order,
+    o: Order,
+) -> bool
     requires { ⌜ (n ≤ length (now left)) × (n ≤ length (now right)) × (length (now classes) ≡ 16) × Narrow (orderOf p) × Narrow (orderOf o) ⌝ }
-    ensures { λ r. ⌜ ((rs : List Rule) → StandFor rs (now (left .entry)) (now (right .entry)) n → ClassesOf rs (now (classes .entry)) → r ≡ isHeld rs (orderOf p) (orderOf o)) ⌝ }
+    ensures { λ r. ⌜ ((rs : List Rule) → Prepared rs (now (left .entry)) (now (right .entry)) n start (now (classes .entry)) → r ≡ isHeld rs (orderOf p) (orderOf o)) ⌝ }
 {
-    match test(left, right, n, classes, p, o) {
+    match test(left, right, n, start, classes, p, o) {
         Tested::Held => true,
         Tested::Stopped { settled, class } => false,
     }

@@ -12,10 +12,10 @@ use Rattle.choices.proofs.settle_orders.Statement.{statement}
 use Rattle.choices.proofs.settle_orders.Tie as tie
 
 abbrev Inv-loop : tie.InvT-loop
-Inv-loop query left right n classes work₀ x produced p₀ work p = WordsTo query work x p × (p ≤ produced) × (length work ≡ length work₀)
+Inv-loop query left right n start classes work₀ x produced p₀ work p = WordsTo query work x p × (p ≤ produced) × (length work ≡ length work₀)
 
 abbrev μ-loop : tie.MeasureT-loop
-μ-loop query left right n classes work₀ x produced p₀ work p = produced - p
+μ-loop query left right n start classes work₀ x produced p₀ work p = produced - p
 
 produced-requires : tie.Need-produced-requires Inv-loop μ-loop
 produced-requires c κs = search needs

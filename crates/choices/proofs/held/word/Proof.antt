@@ -18,11 +18,11 @@ use Rattle.choices.proofs.held.word.Statement.{statement}
 use Rattle.choices.proofs.held.word.Tie as tie
 
 abbrev Inv-loop : tie.InvT-loop
-Inv-loop query left right n classes p produced word₀ i₀ word i =
-    (i ≤ orderCount query) × ((rs : List Rule) → InForce query rs left right n classes → word ≡ number (drop i (heldBits query rs p)))
+Inv-loop query left right n start classes p produced word₀ i₀ word i =
+    (i ≤ orderCount query) × ((rs : List Rule) → InForce query rs left right n start classes → word ≡ number (drop i (heldBits query rs p)))
 
 abbrev μ-loop : tie.MeasureT-loop
-μ-loop query left right n classes p produced word₀ i₀ word i = i
+μ-loop query left right n start classes p produced word₀ i₀ word i = i
 
 -- the sizes are within their limits
 sizes : (c : tie.Start Inv-loop μ-loop) → orderCount (now (c .args .query)) ≤ 16
@@ -77,7 +77,7 @@ loop-again c = let s = c .before .before .before .before .before .before .before
       omega arith,
       λ rs f.
           let here : c .before .held .result ≡ isHeld rs (orderAt b (a .p)) (orderAt b j) =
-          c .before .held .ensures rs (f .rules) (f .alike) ∙ ap₂ (isHeld rs) (c .before .before .before .before .before .before .before .order .ensures .order) (c .before .before .order2 .ensures .order) in
+          c .before .held .ensures rs (f .prepared) ∙ ap₂ (isHeld rs) (c .before .before .before .before .before .before .before .order .ensures .order) (c .before .before .order2 .ensures .order) in
           c .with-bit .ensures
           ∙ ap₂ (λ t w. bit t + 2 * w) here (l .inv .1 rs f ∙ ap (λ k. number (drop k (heldBits b rs (a .p)))) (sym back))
           ∙ sym (number-more (λ i. isHeld rs (orderAt b (a .p)) (orderAt b i)) (orderCount b) j (omega arith)),

@@ -16,10 +16,10 @@ enum-known-settled : tie.Need-enum-known-settled
 enum-known-settled c = search needs
 
 returns : tie.Need-returns
-returns c = let a = c .before .before .before .before .before .before .args in λ rs f cs. sym (subst (Ends rs (orderOf (a .p)) (orderOf (a .o))) (c .enum-told .given .1) (c .before .before .test .ensures rs f cs))
+returns c = let a = c .before .before .before .before .before .before .args in λ rs f. sym (subst (Ends rs (orderOf (a .p)) (orderOf (a .o))) (c .enum-told .given .1) (c .before .before .test .ensures rs f))
 
 returns-2 : tie.Need-returns-2
-returns-2 c = let a = c .before .before .before .before .before .before .before .args in λ rs f cs. sym (subst (Ends rs (orderOf (a .p)) (orderOf (a .o))) (c .before .settled .given .1) (c .before .before .before .test .ensures rs f cs) .0)
+returns-2 c = let a = c .before .before .before .before .before .before .before .args in λ rs f. sym (subst (Ends rs (orderOf (a .p)) (orderOf (a .o))) (c .before .settled .given .1) (c .before .before .before .test .ensures rs f) .0)
 
 pub held-spec : {M : Type 1} → statement M
 held-spec = tie.close (tie.spec test-requires enum-told enum-known-settled returns returns-2)

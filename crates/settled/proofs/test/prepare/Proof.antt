@@ -1,0 +1,47 @@
+-- `settled::test::prepare` meets its contract: the pairs stand for the rules, the classes are theirs, and what is closed from nothing is settled by nothing.
+use borrow.Author.Needs.{needs}
+use Rattle.settled.proofs.TestLaws.{closes-none}
+use Rattle.settled.proofs.test.prepare.Statement.{statement}
+use Rattle.settled.proofs.test.prepare.Tie as tie
+
+classes-requires : tie.Need-classes-requires
+classes-requires c κs = search needs
+
+rules-requires : tie.Need-rules-requires
+rules-requires c κs = search needs
+
+close-requires : tie.Need-close-requires
+close-requires c κs = search needs
+
+same-length : tie.Need-same-length
+same-length c = search needs
+
+same-length-2 : tie.Need-same-length-2
+same-length-2 c = search needs
+
+same-length-3 : tie.Need-same-length-3
+same-length-3 c = search needs
+
+returns : tie.Need-returns
+returns c =
+    let q = c .before .before .before .before .before .before .before .rules in
+    let k = c .before .before .before .before .before .before .before .before .before .before .before .before .before .before .before .before .classes in
+    let rules = q .ensures .0 in (
+      record { rules = rules; settled = closes-none (q .last .1 .1 .0) (q .last .1 .1 .1 .0) (q .result) (c .close .result) (c .close .ensures) _ rules; alike = k .ensures .0 },
+      q .ensures .1,
+      q .ensures .2,
+      q .ensures .3,
+      k .ensures .3,
+    )
+
+pub prepare-spec : {M : Type 1} → statement M
+prepare-spec =
+    tie.close
+    (tie.spec
+    classes-requires
+    rules-requires
+    close-requires
+    same-length
+    same-length-2
+    same-length-3
+    returns)
