@@ -7,20 +7,21 @@ use mathlib.Core.Bool.{Bool, true, false}
 use mathlib.Core.Logic.{inl, inr, ⊎-elim}
 use mathlib.Core.List.{List, [], _∷_, _++_, map, flatten, append-nil, append-assoc, List·Memᴰ, List·Memᴰ·head, List·Memᴰ·tail, List·Memᴰ·not-nil, List·Memᴰ·eq-of-singleton}
 use lib.Dec.{eqb}
-use lib.ListN.{length, getD, set, length-append, length-set, List·getD-append}
+use lib.ListN.{length, take, getD, set, length-append, length-set, List·getD-append}
 use lib.Seq.{getD-at, getD-set-same, getD-set-other}
 use Rattle.theory.specs.Tests.{pick, Says, holds, fails, those, upFrom, bitsOf, inMask, Inside}
+use Rattle.theory.specs.Limits.{equalKind}
 use Rattle.theory.specs.Orders.{Rule, fix, equal, columnsOf, rulesIn}
 use Rattle.theory.specs.Choices.{inForce}
 use Rattle.theory.specs.Settled.{Settled, fixed, equalled, isEqual}
-use Rattle.theory.specs.Query.{Bytes, setCount, orderCount, dependencyCount, dependencyAt, readQuery}
+use Rattle.theory.specs.Query.{Bytes, byteAt, setCount, orderCount, dependencyCount, headAt, bodyAt, kindOf, setOf, dependencyAt, readQuery}
 use Rattle.theory.proofs.Reflect.{says-eqb, says-true, true-says}
 use Rattle.theory.proofs.ListLaws.{member-getD, getD-member, member-flatten-map, flatten-map-member}
 use Rattle.theory.proofs.RowLaws.{all-cons}
 use Rattle.theory.proofs.ChoiceNumbers.{bits-entry}
 use Rattle.theory.proofs.PassedLaws.{Passed}
 use Rattle.settled.specs.Masks.{Narrow, Closed, StandFor, rulesAt}
-use Rattle.settled.specs.Parts.{MaskOf, Sound, Arrow, arrow, arrows, arrowsAt, PairIs, Written, Adding}
+use Rattle.settled.specs.Parts.{MaskOf, Sound, Arrow, arrow, arrows, arrowsAt, listed, PairIs, Written, Adding}
 
 -- no pair, and one more
 pub written-none : (left right : List ℕ) → Written [] left right 0
@@ -74,6 +75,22 @@ few-at only b x i = let d = dependencyAt b (orderCount b + i) in go (eqb (x / 2 
     go : (t : Bool) (r : Rule) → length (pick t (arrows only r) []) ≤ 2
     go true r = few-arrows only r
     go false r = omega arith
+
+-- the arrows of a dependency are those of its rule where its head says that it is listed
+listed-arrows : (kind force only : Bool) (a c : ℕ) (l : List ℕ) (r : ℕ)
+    → pick force (arrows only (pick kind (equal a c) (fix l r))) [] ≡ pick (pick kind force (pick only false force)) (arrows false (pick kind (equal a c) (fix l r))) []
+listed-arrows true force only a c l r = refl
+listed-arrows false true true a c l r = refl
+listed-arrows false false true a c l r = refl
+listed-arrows false force false a c l r = refl
+
+pub listed-at : (only : Bool) (b : Bytes) (x i : ℕ)
+    → arrowsAt only b x i ≡ pick (listed only x (headAt b (orderCount b + i))) (arrows false (dependencyAt b (orderCount b + i) .rule)) []
+unfolding listed
+listed-at only b x i =
+    let head = headAt b (orderCount b + i) in
+    let body = bodyAt b (orderCount b + i) in
+    listed-arrows (eqb (kindOf head) equalKind) (inMask x (setOf head)) only (byteAt body 0) (byteAt body 1) (take (kindOf head) body) (byteAt body (kindOf head))
 
 -- Columns that w settles, if they are all from which the arrow goes, settle the one to which it goes.
 abbrev Settles : List Rule → List ℕ → Arrow → Type 0

@@ -7,9 +7,10 @@ use lib.Bits.{bitOr}
 use lib.Dec.{eqb, ltb}
 use lib.ListN.{length, getD}
 use Rattle.theory.specs.Tests.{pick, Says, inMask}
+use Rattle.theory.specs.Limits.{equalKind}
 use Rattle.theory.specs.Orders.{Rule, fix, equal}
 use Rattle.theory.specs.Settled.{Settled}
-use Rattle.theory.specs.Query.{Bytes, orderCount, dependencyAt}
+use Rattle.theory.specs.Query.{Bytes, orderCount, kindOf, setOf, dependencyAt}
 use Rattle.settled.specs.Masks.{StandFor, SettledMask}
 
 -- The mask has exactly the columns of the list.
@@ -48,6 +49,10 @@ arrows only (equal a b) = arrow (a ∷ []) b ∷ arrow (b ∷ []) a ∷ []
 -- The arrows of dependency i, where bit s of x says whether set s is in force.
 abbrev pub arrowsAt : Bool → Bytes → ℕ → ℕ → List Arrow
 arrowsAt only b x i = pick (eqb (x / 2 ^ (dependencyAt b (orderCount b + i) .set) % 2) 1) (arrows only (dependencyAt b (orderCount b + i) .rule)) []
+
+-- The dependency with that head is listed: its set is in force and, where only equals are listed, it is one.
+unfoldable pub listed : Bool → ℕ → ℕ → Bool
+listed only x head = pick (eqb (kindOf head) equalKind) (inMask x (setOf head)) (pick only false (inMask x (setOf head)))
 
 -- Pair i is the arrow's masks.
 abbrev pub PairIs : Arrow → List ℕ → List ℕ → ℕ → Type 0

@@ -5,15 +5,17 @@ use numbers::limits;
 use orders::Order;
 use orders::Rule;
 ghost use mathlib.Core.Path.{_≡_};
+ghost use mathlib.Core.Bool.{false};
 ghost use mathlib.Core.List.{[], _∷_};
 ghost use Prim.Native.Nat.{_+_, _≤_, _<_};
 ghost use lib.ListN.{length};
+ghost use Rattle.theory.specs.Tests.{inMask};
 ghost use Rattle.theory.specs.Refusals.{passed};
 ghost use Rattle.theory.specs.Orders.{columnsOf};
 ghost use Rattle.theory.specs.Query.{dependencyCount, queryRefusal};
 ghost use Rattle.orders.specs.Orders.{orderOf, ruleIs};
 ghost use Rattle.settled.specs.Masks.{Narrow, StandFor, ClassesOf, rulesAt};
-ghost use Rattle.settled.specs.Parts.{arrow, arrows, arrowsAt, Adding, Listed};
+ghost use Rattle.settled.specs.Parts.{arrow, arrows, arrowsAt, listed, Adding, Listed};
 
 // The arrow from an order's columns to a column as pair n. The count of all.
 fn add_arrow(left: &mut [u16], right: &mut [u16], n: usize, from: Order, to: u8) -> usize
@@ -46,16 +48,13 @@ fn add_equal(left: &mut [u16], right: &mut [u16], n: usize, a: u8, b: u8) -> usi
     add_arrow(left, right, m, other, a)
 }
 
-// A rule's arrows behind the first n pairs: a fix has one, unless only equals are listed, and an equal has two, one each way. The count of all.
-fn add_rule(left: &mut [u16], right: &mut [u16], n: usize, rule: Rule, only: bool) -> usize
+// A rule's arrows behind the first n pairs: a fix has one, and an equal has two, one each way. The count of all.
+fn add_rule(left: &mut [u16], right: &mut [u16], n: usize, rule: Rule) -> usize
     requires { ⌜ Narrow (columnsOf (ruleIs rule)) × (n + 2 ≤ length (now left)) × (n + 2 ≤ length (now right)) ⌝ }
-    ensures { λ r. ⌜ Adding (arrows only (ruleIs rule)) (now (left .entry)) (now (right .entry)) n (now (left .exit)) (now (right .exit)) r ⌝ }
+    ensures { λ r. ⌜ Adding (arrows false (ruleIs rule)) (now (left .entry)) (now (right .entry)) n (now (left .exit)) (now (right .exit)) r ⌝ }
 {
     match rule {
         Rule::Fix { count, a, b, c, d } => {
-            if only {
-                return n;
-            }
             let k = count as usize;
             let named = Order {
                 columns: [a, b, c, d],
@@ -69,7 +68,29 @@ fn add_rule(left: &mut [u16], right: &mut [u16], n: usize, rule: Rule, only: boo
     }
 }
 
-// The pairs of dependency i behind the first n, if its set is in force. The count of all. Its head alone tells the set, and the rest is read only where that is in force.
+// Whether a set is in force.
+fn in_force(x: u8, set: u8) -> bool
+    requires { ⌜ set < 16 ⌝ }
+    ensures { λ r. ⌜ r ≡ inMask x set ⌝ }
+{
+    (x as u16 >> set) % 2 == 1
+}
+
+// Whether the dependency with that head is listed: its set is in force and, where only equals are listed, it is one.
+fn listed(x: u8, head: u8, only: bool) -> bool
+    ensures { λ r. ⌜ r ≡ listed only x head ⌝ }
+{
+    let set = head % limits::KIND_UNIT;
+    if head / limits::KIND_UNIT == limits::EQUAL_KIND {
+        return in_force(x, set);
+    }
+    if only {
+        return false;
+    }
+    in_force(x, set)
+}
+
+// The pairs of dependency i behind the first n, if it is listed, which its head tells: no more is read of one that is not. The count of all.
 fn add(
     query: &[u8],
     x: u8,
@@ -83,13 +104,13 @@ fn add(
     ensures { λ r. ⌜ Adding (arrowsAt only (now (query .entry)) x i) (now (left .entry)) (now (right .entry)) n (now (left .exit)) (now (right .exit)) r ⌝ }
 {
     let at = query::bytes::order_count(query) + i as u16;
-    let set = query::bytes::head(query, at) % limits::KIND_UNIT;
-    if (x as u16 >> set) % 2 != 1 {
+    let head = query::bytes::head(query, at);
+    if !listed(x, head, only) {
         return n;
     }
     let dependency = query::dependency(query, i);
     let rule = dependency.rule;
-    add_rule(left, right, n, rule, only)
+    add_rule(left, right, n, rule)
 }
 
 // The pairs of all dependencies in force, or of the equals among them. Their count.

@@ -1,23 +1,16 @@
--- `settled::pairs::add_rule` meets its contract: the arrows of a fix, if fixes are listed, and those of an equal.
+-- `settled::pairs::add_rule` meets its contract: the arrow of a fix, and those of an equal.
 use native.Mathlib.Omega.{arith}
-use mathlib.Core.Path.{_≡_, subst}
-use mathlib.Core.List.{[]}
+use mathlib.Core.Path.{subst}
 use borrow.Author.Needs.{needs}
 use Rattle.theory.specs.Orders.{columnsOf}
 use Rattle.orders.specs.declared.Rule.{Rule}
 use Rattle.orders.specs.Orders.{ruleIs}
 use Rattle.settled.specs.Masks.{Narrow}
-use Rattle.settled.specs.Parts.{arrows}
-use Rattle.settled.proofs.ArrowLaws.{adding-none}
 use Rattle.settled.proofs.pairs.add_rule.Statement.{statement}
 use Rattle.settled.proofs.pairs.add_rule.Tie as tie
 
 enum-known-rule : tie.Need-enum-known-rule
 enum-known-rule c = search needs
-
-returns : tie.Need-returns
-returns c = let s = c .before .before .before .before .before .before in let none : arrows (s .args .only) (ruleIs (s .args .rule)) ≡ [] = rw (c .before .before .rule .given .1, c .if1 .taken) in
-    rw none (adding-none (s .args .left .now) (s .args .right .now) (s .args .n))
 
 cast-k : tie.Need-cast-k
 cast-k c = search needs
@@ -29,8 +22,8 @@ column-requires : tie.Need-column-requires
 column-requires c κs = search needs
 
 add-arrow-requires : tie.Need-add-arrow-requires
-add-arrow-requires c κs = let s = c .before .before .before .before .before .before .before .before .before .before in
-    (rw (c .before .before .column .ensures, c .before .before .before .front .ensures .order) (subst (λ (r : Rule). Narrow (columnsOf (ruleIs r))) (c .before .before .before .before .before .before .rule .given .1) (s .pre .0)), omega (arith, s .pre .1), omega (arith, s .pre .2))
+add-arrow-requires c κs = let s = c .before .before .before .before .before .before .before .before .before in
+    (rw (c .before .before .column .ensures, c .before .before .before .front .ensures .order) (subst (λ (r : Rule). Narrow (columnsOf (ruleIs r))) (c .before .before .before .before .before .rule .given .1) (s .pre .0)), omega (arith, s .pre .1), omega (arith, s .pre .2))
 
 enum-known-rule-2 : tie.Need-enum-known-rule-2
 enum-known-rule-2 c = search needs
@@ -45,8 +38,8 @@ same-length c = search needs
 same-length-2 : tie.Need-same-length-2
 same-length-2 c = search needs
 
-returns-2 : tie.Need-returns-2
-returns-2 c = rw (c .before .before .before .before .before .before .before .before .before .before .before .rule .given .1, c .before .before .before .before .before .before .before .before .before .if1 .left) (rw (c .before .before .before .before .before .before .before .column .ensures, c .before .before .before .before .before .before .before .before .front .ensures .order) at (c .before .before .before .before .add-arrow .ensures))
+returns : tie.Need-returns
+returns c = rw (c .before .before .before .before .before .before .before .before .before .before .rule .given .1) (rw (c .before .before .before .before .before .before .before .column .ensures, c .before .before .before .before .before .before .before .before .front .ensures .order) at (c .before .before .before .before .add-arrow .ensures))
 
 same-length-3 : tie.Need-same-length-3
 same-length-3 c = search needs
@@ -54,15 +47,14 @@ same-length-3 c = search needs
 same-length-4 : tie.Need-same-length-4
 same-length-4 c = search needs
 
-returns-3 : tie.Need-returns-3
-returns-3 c = rw (c .before .before .before .before .before .before .before .before .rule2 .given .1) (c .before .before .before .before .add-equal .ensures)
+returns-2 : tie.Need-returns-2
+returns-2 c = rw (c .before .before .before .before .before .before .before .before .rule2 .given .1) (c .before .before .before .before .add-equal .ensures)
 
 pub add-rule-spec : {M : Type 1} → statement M
 add-rule-spec =
     tie.close
     (tie.spec
     enum-known-rule
-    returns
     cast-k
     front-requires
     column-requires
@@ -71,7 +63,7 @@ add-rule-spec =
     add-equal-requires
     same-length
     same-length-2
-    returns-2
+    returns
     same-length-3
     same-length-4
-    returns-3)
+    returns-2)
