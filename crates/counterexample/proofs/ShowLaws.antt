@@ -37,14 +37,14 @@ both-first settled class n rows =
 module _ (b : Bytes) (produced sets order : ℕ) {rows : Bytes} (k : Askable b produced sets order rows) where
   -- the test was made of the query's orders and rules
   ends-read : (r : Tested) → Ends (rulesAt b sets) (orderAt b produced) (orderAt b order) r
-      → Ends (rulesChosen (readQuery b) produced sets order) (standing (readQuery b) produced sets order) (lookedFor (readQuery b) produced sets order) r
+      → Ends (rulesChosen (readQuery b) sets) (standing (readQuery b) produced) (lookedFor (readQuery b) order) r
   ends-read r e =
-      let rules : rulesAt b sets ≡ rulesChosen (readQuery b) produced sets order = ap (λ n. rulesUnder (readQuery b) (bitsOf n sets)) (sym (set-count b)) ∙ rules-chosen (readQuery b) sets in
+      let rules : rulesAt b sets ≡ rulesChosen (readQuery b) sets = ap (λ n. rulesUnder (readQuery b) (bitsOf n sets)) (sym (set-count b)) ∙ rules-chosen (readQuery b) sets in
       let start = produced-at b produced [] (subst (λ n. produced < n) (produced-count b) (k .named .entered)) in
-      let goal : lookedFor (readQuery b) produced sets order ≡ orderAt b order =
+      let goal : lookedFor (readQuery b) order ≡ orderAt b order =
       ap (λ l. getD l order []) (interesting-read b) ∙ entry-of (orderAt b) _ order [] (subst (λ n. order < n) (order-count b) (k .named .looked-for)) in
-      subst (λ rs. Ends rs (standing (readQuery b) produced sets order) (lookedFor (readQuery b) produced sets order) r) rules
-      (subst (λ p. Ends (rulesAt b sets) p (lookedFor (readQuery b) produced sets order) r) (sym start) (subst (λ o. Ends (rulesAt b sets) (orderAt b produced) o r) (sym goal) e))
+      subst (λ rs. Ends rs (standing (readQuery b) produced) (lookedFor (readQuery b) order) r) rules
+      (subst (λ p. Ends (rulesAt b sets) p (lookedFor (readQuery b) order) r) (sym start) (subst (λ o. Ends (rulesAt b sets) (orderAt b produced) o r) (sym goal) e))
 
   -- the order is held
   pub held-shows : Ends (rulesAt b sets) (orderAt b produced) (orderAt b order) tested.Held → Shows b produced sets order rows (grant 0) rows
@@ -63,6 +63,6 @@ module _ (b : Bytes) (produced sets order : ℕ) {rows : Bytes} (k : Askable b p
       (sym (wrote ∙ ap (λ m. placed 0 (rowBy true settled class m ++ rowBy false settled class m) rows) same ∙ both-first settled class (readQuery b .columns) rows))
       (pair k (says-false (askable-exactly b produced sets order k .derived) (t .0)) one two
       (t .1 (readQuery b .columns)
-      (formed .orders (standing (readQuery b) produced sets order) (Memᴰ·append-left (readQuery b .tested) (member-getD (readQuery b .produced) produced [] (k .named .entered))) .below)
-      (formed .orders (lookedFor (readQuery b) produced sets order) (member-getD (interesting (readQuery b)) order [] (k .named .looked-for)) .below)
+      (formed .orders (standing (readQuery b) produced) (Memᴰ·append-left (readQuery b .tested) (member-getD (readQuery b .produced) produced [] (k .named .entered))) .below)
+      (formed .orders (lookedFor (readQuery b) order) (member-getD (interesting (readQuery b)) order [] (k .named .looked-for)) .below)
       (rules-below (readQuery b) formed (setsOf (readQuery b .sets) sets))))

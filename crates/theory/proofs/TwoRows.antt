@@ -49,17 +49,17 @@ module _ (query : Bytes) (produced sets order : ℕ) where
   q = readQuery query
 
   abbrev start : Order
-  start = standing q produced sets order
+  start = standing q produced
 
   abbrev goal : Order
-  goal = lookedFor q produced sets order
+  goal = lookedFor q order
 
   -- Whether the order is derived, whether it is true of all rows that stand in the produced order and obey the sets in force, and whether two rows of 0 and 1 break it.
   abbrev pub Told : Bool → Type 0
-  Told held = Exact (q .columns) (rulesChosen q produced sets order) start goal held
+  Told held = Exact (q .columns) (rulesChosen q sets) start goal held
 
   -- where no check refuses, the closure test tells all three
-  pub askable-exactly : {rows : Bytes} → Askable query produced sets order rows → Told (isHeld (rulesChosen q produced sets order) start goal)
+  pub askable-exactly : {rows : Bytes} → Askable query produced sets order rows → Told (isHeld (rulesChosen q sets) start goal)
   askable-exactly k =
       query-exactly q (query-formed query (k .checked)) start goal (setsOf (q .sets) sets) (member-getD (q .produced) produced [] (k .named .entered))
       (member-getD (interesting q) order [] (k .named .looked-for))

@@ -27,24 +27,23 @@ pub record Askable (query : Bytes) (produced sets order : ℕ) (rows : Bytes) : 
   pub named : Named (readQuery query) produced sets order
   pub room : 2 * readQuery query .columns ≤ length rows
 
-module _ (q : Query) (produced sets order : ℕ) where
-  -- The order that the rows stand in, the order looked for, and the rules of the sets in force.
-  abbrev pub standing : Order
-  standing = getD (q .produced) produced []
+-- The order that the rows stand in, the order looked for, and the rules of the sets in force.
+abbrev pub standing : Query → ℕ → Order
+standing q produced = getD (q .produced) produced []
 
-  abbrev pub lookedFor : Order
-  lookedFor = getD (interesting q) order []
+abbrev pub lookedFor : Query → ℕ → Order
+lookedFor q order = getD (interesting q) order []
 
-  abbrev pub rulesChosen : List Rule
-  rulesChosen = rulesOf q (setsOf (q .sets) sets)
+abbrev pub rulesChosen : Query → ℕ → List Rule
+rulesChosen q sets = rulesOf q (setsOf (q .sets) sets)
 
-  -- The derivation gives the order looked for.
-  abbrev pub Derivable : Type 0
-  Derivable = After q standing (setsOf (q .sets) sets) lookedFor
+-- The derivation gives the order looked for.
+abbrev pub Derivable : Query → ℕ → ℕ → ℕ → Type 0
+Derivable q produced sets order = After q (standing q produced) (setsOf (q .sets) sets) (lookedFor q order)
 
-  -- Two rows, as bytes, that break it.
-  abbrev pub Breaking : Bytes → Bytes → Type 0
-  Breaking one two = Counterexample (q .columns) rulesChosen standing lookedFor (map pos one) (map pos two)
+-- Two rows, as bytes, that break it.
+abbrev pub Breaking : Query → ℕ → ℕ → ℕ → Bytes → Bytes → Type 0
+Breaking q produced sets order one two = Counterexample (q .columns) (rulesChosen q sets) (standing q produced) (lookedFor q order) (map pos one) (map pos two)
 
 -- What is answered, and every byte of the buffer afterwards: each refusal under exactly its condition, in the order of the list; "none", value 0, exactly where the derivation
 -- gives the order; and a pair, value 1, exactly where it does not. Which pair is left open: its rows fill the first bytes, row after row, and the others are kept.
