@@ -1,14 +1,14 @@
 -- What the end of the test shows, in the query's words.
 use Prim.Native.Nat.{ℕ, _+_, _*_, _<_}
 use native.Mathlib.Omega.{arith}
-use mathlib.Core.Path.{_≡_, refl, sym, _∙_, ap, ap₂, subst}
-use mathlib.Core.Bool.{Bool, true, false}
+use mathlib.Core.Path.{_≡_, sym, _∙_, ap, ap₂, subst}
+use mathlib.Core.Bool.{true, false}
 use mathlib.Core.List.{[], _++_, append-assoc, Memᴰ·append-left}
 use lib.ListN.{length, drop, getD, length-append}
-use Rattle.theory.specs.Tests.{bitsOf, inMask}
-use Rattle.theory.specs.Orders.{Order, Rule, Query, interesting}
+use Rattle.theory.specs.Tests.{bitsOf}
+use Rattle.theory.specs.Orders.{interesting}
 use Rattle.theory.specs.Choices.{rulesUnder, setsOf}
-use Rattle.theory.specs.Query.{Bytes, producedCount, orderAt, readQuery}
+use Rattle.theory.specs.Query.{Bytes, orderAt, readQuery}
 use Rattle.theory.specs.Table.{grant}
 use Rattle.theory.specs.Counterexamples.{Askable, standing, lookedFor, rulesChosen, Shows, none, pair}
 use Rattle.theory.proofs.Reflect.{says-true, says-false}
@@ -23,7 +23,7 @@ use Rattle.byte_rows.proofs.PlacedLaws.{placed-first}
 use Rattle.settled.specs.declared.Tested.{Tested}
 use Rattle.settled.specs.declared.Tested.the-variants as tested
 use Rattle.settled.specs.Masks.{rulesAt}
-use Rattle.settled.specs.Ends.{valueIn, rowBy, Ends}
+use Rattle.settled.specs.Ends.{rowBy, Ends}
 
 -- two rows of n columns in the first bytes
 both-first : (settled class n : ℕ) (rows : Bytes)

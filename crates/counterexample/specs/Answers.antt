@@ -1,5 +1,4 @@
 -- Document 01's number and value for each case of the answer.
-use Prim.Native.Nat.{ℕ}
 use mathlib.Core.Logic.{_≢_}
 use Rattle.theory.specs.Refusals.{passed}
 use Rattle.theory.specs.Table.{Answer, grant, refuse}

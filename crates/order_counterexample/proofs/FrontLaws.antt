@@ -7,7 +7,6 @@ use lib.ListN.{length, take}
 use lib.Seq.{take-all}
 use Rattle.theory.specs.Tests.{Says, holds, fails}
 use Rattle.theory.specs.Limits.{queryFront}
-use Rattle.theory.specs.Refusals.{passed}
 use Rattle.theory.specs.Query.{Bytes, readQuery, queryRefusal}
 use Rattle.theory.specs.Table.{Answer}
 use Rattle.theory.specs.Listing.{refusedLine}

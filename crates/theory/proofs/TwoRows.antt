@@ -1,6 +1,6 @@
 -- Document 02, Req 06: what an answer about two rows tells. None is answered exactly where the derivation gives the order, which is where all rows that stand in the produced order
 -- and obey the sets in force stand in it; a pair exactly where it does not.
-use Prim.Native.Nat.{ℕ, _*_, _≤_, _<_}
+use Prim.Native.Nat.{ℕ, _*_, _<_}
 use native.Mathlib.Nat.{not-le-of-lt}
 use native.Mathlib.Omega.{arith}
 use mathlib.Core.Path.{_≡_, refl, sym, _∙_, subst}
@@ -8,7 +8,7 @@ use mathlib.Core.Bool.{Bool, true, false, true≢false}
 use mathlib.Core.Logic.{_≢_, _↔_}
 use mathlib.Core.List.{List, [], List·Memᴰ}
 use lib.Dec.{eqb}
-use lib.ListN.{length, getD, List·getD-eq-default}
+use lib.ListN.{length, List·getD-eq-default}
 use Rattle.theory.specs.Tests.{Says, holds, fails, member, upFrom, bitsOf, inMask}
 use Rattle.theory.specs.Orders.{Order, Query, interesting, rulesOf, After}
 use Rattle.theory.specs.Choices.{inForce, rulesUnder, setsOf}

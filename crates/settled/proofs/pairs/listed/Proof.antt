@@ -1,5 +1,4 @@
 -- `settled::pairs::listed` meets its contract: by the kind of the dependency.
-use native.Mathlib.Omega.{arith}
 use mathlib.Core.Path.{refl}
 use borrow.Author.Needs.{needs}
 use borrow.Author.Tests.{eq-eqb, ne-eqb}
