@@ -131,7 +131,7 @@ pub record Testing (rs : List Rule) (p o : Order) (i j m : ℕ) : Type 0 where
   pub past : Past rs (columns (take i o)) p (drop j p)
 
 module _ (rs : List Rule) (p o : Order) where
-  -- the test begins at the first entries, with what no columns settle
+  -- the test begins at the first entries, with what is settled from the start
   testing-begins : (m : ℕ) → SettledMask rs [] m → Testing rs p o 0 0 m
   unfolding isHeld
   testing-begins m s = record { mask = s; rest = refl; past = past-none rs [] p }
@@ -207,7 +207,7 @@ Midway left right n start classes p o i j m = (rs : List Rule) → Prepared rs l
 abbrev pub Ended : List ℕ → List ℕ → ℕ → ℕ → List ℕ → Order → Order → Tested → Type 0
 Ended left right n start classes p o r = (rs : List Rule) → Prepared rs left right n start classes → Ends rs p o r
 
--- closed from nothing, a mask has what no columns settle
+-- closed from nothing, a mask has what is settled from the start
 pub closes-none : (left right : List ℕ) (n m : ℕ) → Closes left right n 0 m → (rs : List Rule) → StandFor rs left right n → SettledMask rs [] m
 closes-none left right n m closes rs f = closes rs [] f (λ c h. among (says-true (mask-none c) h)) (λ c h. absurd (List·Memᴰ·not-nil h))
 

@@ -22,7 +22,8 @@ valueIn first settled class = pick settled 0 (bit (pick first class (not class))
 abbrev pub rowBy : Bool → ℕ → ℕ → ℕ → Bytes
 rowBy first settled class n = map (λ c. valueIn first (inMask settled c) (inMask class c)) (upFrom 0 n)
 
--- The test says whether the order is held, and where it stops, the two rows by its masks show that it is not, whatever the number of columns.
+-- The test says whether the order is held, and where it stops, the two rows by its masks show that it is not: rows of any width that has all columns of both orders and
+-- of the rules.
 abbrev pub Ends : List Rule → Order → Order → Tested → Type 0
 Ends rs p o tested.Held = isHeld rs p o ≡ true
 Ends rs p o (tested.Stopped settled class) =

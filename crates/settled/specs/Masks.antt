@@ -32,7 +32,7 @@ SettledMask rs w m = (c : ℕ) → Says (Settled rs w c) (inMask m c)
 abbrev pub ClassesOf : List Rule → List ℕ → Type 0
 ClassesOf rs classes = (c x : ℕ) → c < 16 → inMask (getD classes c 0) x ≡ alike rs c x
 
--- What the test is given stands for the rules: the pairs of masks, the mask of the columns that are settled from the start, as no columns settle them, and the classes.
+-- What the test is given stands for the rules: the pairs of masks, the mask of the columns that are settled from the start, before any entry, and the classes.
 pub record Prepared (rs : List Rule) (left right : List ℕ) (n start : ℕ) (classes : List ℕ) : Type 0 where
   pub rules : StandFor rs left right n
   pub settled : SettledMask rs [] start

@@ -6,7 +6,7 @@ pub mod test;
 
 pub use masks::has;
 
-// What the test is given beside the masks themselves: how many pairs of masks there are, and the columns that are settled from the start, as no columns settle them.
+// What the test is given beside the masks themselves: how many pairs of masks there are, and the columns that are settled from the start, before any entry.
 pub struct Ready {
     pub pairs: usize,
     pub start: u16,
