@@ -1,6 +1,6 @@
-//! Order tables for a planner in Rust: build the table of a query or put a
-//! supplier's on trial, look it up, list it, and show two rows where an order is not
-//! held. All of it is done by the proved library; here its numbers become types, so
+//! Order tables for a planner in Rust: check a query and read it, build its table or
+//! put a supplier's on trial, look it up, list it, and show two rows where an order is
+//! not held. All of it is done by the proved library; here its numbers become types, so
 //! that a set can't be passed as a state.
 //!
 //! A set that is taken stays in force: what holds is what all sets taken since the
@@ -20,9 +20,11 @@
 //! # }
 //! ```
 
+mod query;
 pub mod raw;
 mod refusal;
 
+pub use query::{Columns, Dependency, Query, Rule};
 pub use refusal::Refusal;
 use refusal::{granted, value};
 

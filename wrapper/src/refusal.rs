@@ -57,6 +57,25 @@ impl Refusal {
     pub fn number(self) -> u8 {
         self as u8
     }
+
+    /// The refusal's word.
+    pub fn word(self) -> &'static str {
+        match self {
+            Self::Length => "length",
+            Self::Size => "size",
+            Self::Item => "item",
+            Self::Column => "column",
+            Self::Repeat => "repeat",
+            Self::Twin => "twin",
+            Self::Orderings => "orderings",
+            Self::States => "states",
+            Self::Space => "space",
+            Self::Handle => "handle",
+            Self::Row => "row",
+            Self::Mismatch => "mismatch",
+            Self::Answer => "answer",
+        }
+    }
 }
 
 impl fmt::Display for Refusal {

@@ -91,7 +91,7 @@ fn enumerated(name: &str) -> Vec<(String, usize)> {
 #[test]
 fn the_header_and_the_wrapper_have_the_same_refusals() {
     let refusals = Refusal::ALL.map(|refusal| {
-        let word = format!("{refusal:?}").to_uppercase();
+        let word = refusal.word().to_uppercase();
         (word, usize::from(refusal.number()))
     });
     let granted = [("GRANTED".to_owned(), 0)];

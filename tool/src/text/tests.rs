@@ -1,0 +1,541 @@
+//! Texts that are read, and bad input of every kind.
+
+use super::{is_text, order_names, read, set_names, write, Text, TextError};
+use crate::query::{Dependency, Query, Rule};
+
+/// The example of docs/FORMAT.md.
+const EXAMPLE: &str = "\
+columns time axis code
+produced (time) (time, axis)
+tested (time, code)
+set filter: time -> axis
+set join: axis = code
+set constant: -> axis
+";
+
+fn fix(set: usize, left: &[usize], right: usize) -> Dependency {
+    let left = left.to_vec();
+    let rule = Rule::Fix { left, right };
+    Dependency { set, rule }
+}
+
+fn equal(set: usize, one: usize, other: usize) -> Dependency {
+    let rule = Rule::Equal(one, other);
+    Dependency { set, rule }
+}
+
+fn names(names: &[&str]) -> Vec<String> {
+    names.iter().map(|name| name.to_string()).collect()
+}
+
+/// The example as a query.
+fn example() -> Query {
+    Query {
+        columns: names(&["time", "axis", "code"]),
+        produced: vec![vec![0], vec![0, 1]],
+        tested: vec![vec![0, 2]],
+        sets: names(&["filter", "join", "constant"]),
+        dependencies: vec![fix(0, &[0], 1), equal(1, 1, 2), fix(2, &[], 1)],
+    }
+}
+
+fn read_query(text: &str) -> Query {
+    match read(text.as_bytes()) {
+        Ok(text) => text.query,
+        Err(error) => panic!("{text}: {error}"),
+    }
+}
+
+#[test]
+fn a_text_is_told_from_bytes_by_its_first_byte() {
+    assert!(!is_text(b""));
+    for first in 0..=255 {
+        assert_eq!(is_text(&[first]), (32..=126).contains(&first), "{first}");
+        assert_eq!(is_text(&[first, 0]), is_text(&[first]));
+    }
+}
+
+#[test]
+fn the_example_is_read_and_written() {
+    let query = example();
+    let lines = vec![2, 2, 3, 4, 5, 6];
+    let text = read(EXAMPLE.as_bytes());
+    assert_eq!(text, Ok(Text { query, lines }));
+    assert_eq!(write(&example()), EXAMPLE);
+}
+
+#[test]
+fn blanks_and_comments_count_for_nothing() {
+    let text = "# produced (x)\n\
+        columns\ttime axis  code#columns\r\n\
+        \n   \t \r\n\
+        produced(time)(time,axis) # (\u{e9}\u{7}\n\
+        tested ( time , code )\n  set filter:time->axis\nset join :axis=code\n\
+        set constant : -> axis # the last line has no end";
+    assert_eq!(read_query(text), example());
+    let no_text = read(b"columns a # \xff\xfe\nproduced (a)");
+    assert!(no_text.is_ok(), "{no_text:?}");
+}
+
+#[test]
+fn orders_may_stand_in_several_lines_and_among_sets() {
+    let text = "columns time axis code\nset filter: time -> axis\ntested (time, code)\n\
+        produced (time)\nset join: axis = code\nproduced (time, axis)\nproduced\ntested\n\
+        set constant: -> axis";
+    let lines = vec![4, 6, 3, 2, 5, 9];
+    let query = example();
+    assert_eq!(read(text.as_bytes()), Ok(Text { query, lines }));
+}
+
+#[test]
+fn sets_are_numbered_by_the_line_of_all_sets_or_by_first_use() {
+    let by_use = "columns a b\nproduced (a)\nset y: a -> b\nset x: -> a\nset y: a = b";
+    let query = read_query(by_use);
+    assert_eq!(query.sets, names(&["y", "x"]));
+    let expected = [fix(0, &[0], 1), fix(1, &[], 0), equal(0, 0, 1)];
+    assert_eq!(query.dependencies, expected);
+
+    let by_line = by_use.replace("produced (a)", "produced (a)\nsets x z y");
+    let query = read_query(&by_line);
+    assert_eq!(query.sets, names(&["x", "z", "y"]));
+    let expected = [fix(2, &[0], 1), fix(0, &[], 0), equal(2, 0, 1)];
+    assert_eq!(query.dependencies, expected);
+    assert_eq!(write(&query), by_line + "\n");
+}
+
+#[test]
+fn the_line_of_all_sets_is_written_where_first_use_would_number_otherwise() {
+    for (sets, used, written) in [
+        (0, &[][..], false),
+        (1, &[], true),
+        (1, &[0], false),
+        (2, &[0, 1], false),
+        (2, &[0, 0, 1, 0], false),
+        (2, &[1, 0], true),
+        (3, &[0, 1], true),
+        (3, &[0, 2, 1], true),
+        (3, &[0, 1, 0, 2, 1], false),
+    ] {
+        let query = Query {
+            columns: names(&["a"]),
+            produced: vec![vec![]],
+            sets: (0..sets).map(|set| format!("s{set}")).collect(),
+            dependencies: used.iter().map(|&set| fix(set, &[], 0)).collect(),
+            ..Query::default()
+        };
+        let text = write(&query);
+        assert_eq!(text.contains("\nsets "), written, "{text}");
+        assert_eq!(read_query(&text), query, "{text}");
+    }
+}
+
+#[test]
+fn names_have_letters_digits_lines_and_dots() {
+    let query = read_query("columns _ A9 t.time_2 none set columns\nset sets: _ -> set");
+    let expected = ["_", "A9", "t.time_2", "none", "set", "columns"];
+    assert_eq!(query.columns, expected);
+    assert_eq!(query.sets, ["sets"]);
+    assert_eq!(query.dependencies, [fix(0, &[0], 4)]);
+}
+
+#[test]
+fn empty_orders_lists_and_texts() {
+    let query = read_query("columns\nproduced ()( )\ntested\nsets");
+    assert_eq!(query.sizes(), [0, 2, 0, 0, 0]);
+    assert_eq!(read_query(" # nothing"), Query::default());
+}
+
+/// Bad input behind these lines.
+const BEFORE: &str = "columns time axis code\nproduced (time)\n";
+
+/// Lines that are bad behind [`BEFORE`], each with the column of what was found, that, and
+/// what would do.
+const BAD_LINES: &[(&str, usize, &str, &str)] = &[
+    // The line's first word.
+    ("test (time)", 1, "`test`", "`tested`"),
+    ("Produced (time)", 1, "`Produced`", "`produced`"),
+    (
+        "  order (time)",
+        3,
+        "`order`",
+        "`columns`, `produced`, `tested`, `sets` or `set`",
+    ),
+    (
+        "(time)",
+        1,
+        "`(`",
+        "`columns`, `produced`, `tested`, `sets` or `set`",
+    ),
+    (
+        "columns speed",
+        1,
+        "`columns`, a second line of all columns",
+        "one",
+    ),
+    // Characters.
+    ("tested (time);", 14, "`;`", "a name or a sign"),
+    ("tested (\u{e9})", 9, "`\u{e9}`", "a name or a sign"),
+    ("tested (time\u{7})", 13, "the byte 7", "a name or a sign"),
+    ("\u{b}", 1, "the byte 11", "a name or a sign"),
+    ("tested (\u{85})", 9, "the byte 194", "a name or a sign"),
+    ("set x: time - axis", 13, "`-`", "`->`"),
+    ("set x: time > axis", 13, "`>`", "`->`"),
+    ("set x: time => axis", 14, "`>`", "`->`"),
+    (
+        "tested (2nd.a)",
+        9,
+        "`2nd.a`",
+        "a name that begins with a letter",
+    ),
+    // Orders.
+    ("tested time", 8, "`time`", "an order in parentheses"),
+    (
+        "tested (time), (axis)",
+        14,
+        "`,`",
+        "an order in parentheses",
+    ),
+    ("tested (time", 13, "the end of the line", "`,` or `)`"),
+    ("tested (time # )", 13, "the end of the line", "`,` or `)`"),
+    ("tested (time axis)", 14, "`axis`", "`,` or `)`"),
+    ("tested (time,)", 14, "`)`", "a column"),
+    ("tested (,time)", 9, "`,`", "a column or `)`"),
+    ("tested (", 9, "the end of the line", "a column or `)`"),
+    ("tested ((time))", 9, "`(`", "a column or `)`"),
+    ("tested (time desc)", 14, "`desc`", "`,` or `)`"),
+    (
+        "tested (desc)",
+        9,
+        "`desc`, which is reserved",
+        "a column or `)`",
+    ),
+    (
+        "tested (time, axis, code, time, tme)",
+        33,
+        "`tme`, a fifth column",
+        "at most four",
+    ),
+    ("tested (tme)", 9, "`tme`, which is no column", "`time`"),
+    (
+        "tested (time, TIME)",
+        15,
+        "`TIME`, which is no column",
+        "`time`",
+    ),
+    (
+        "tested (speed)",
+        9,
+        "`speed`, which is no column",
+        "`time`, `axis`, `code` or a name more behind `columns`",
+    ),
+    // Sets and dependencies.
+    ("set", 4, "the end of the line", "the name of a set"),
+    ("set : time -> axis", 5, "`:`", "the name of a set"),
+    ("set x", 6, "the end of the line", "`:`"),
+    ("set x time -> axis", 7, "`time`", "`:`"),
+    ("set x:", 7, "the end of the line", "a column or `->`"),
+    ("set x: = axis", 8, "`=`", "a column or `->`"),
+    ("set x: time", 12, "the end of the line", "`->`, `=` or `,`"),
+    ("set x: time axis", 13, "`axis`", "`->`, `=` or `,`"),
+    (
+        "set x: time, axis",
+        18,
+        "the end of the line",
+        "`->` or `,`",
+    ),
+    ("set x: time, axis = code", 19, "`=`", "`->` or `,`"),
+    ("set x: time, axis, code", 24, "the end of the line", "`->`"),
+    (
+        "set x: time, axis, code, time -> axis",
+        26,
+        "`time`, a fourth left column",
+        "at most three",
+    ),
+    ("set x: time, -> axis", 14, "`->`", "a column"),
+    ("set x: time ->", 15, "the end of the line", "a column"),
+    ("set x: time =", 14, "the end of the line", "a column"),
+    (
+        "set x: time -> axis code",
+        21,
+        "`code`",
+        "the end of the line",
+    ),
+    (
+        "set x: time = axis = code",
+        20,
+        "`=`",
+        "the end of the line",
+    ),
+    ("set x: -> axis, code", 15, "`,`", "the end of the line"),
+    (
+        "set x: tiem -> axis",
+        8,
+        "`tiem`, which is no column",
+        "`time`",
+    ),
+    (
+        "set x: time -> axs",
+        16,
+        "`axs`, which is no column",
+        "`axis`",
+    ),
+    (
+        "set x: time = axs",
+        15,
+        "`axs`, which is no column",
+        "`axis`",
+    ),
+    (
+        "set desc: time -> axis",
+        5,
+        "`desc`, which is reserved",
+        "the name of a set",
+    ),
+    (
+        "set none: time -> axis",
+        5,
+        "`none`, which stands for no set",
+        "another name",
+    ),
+    (
+        "set x: time -> desc",
+        16,
+        "`desc`, which is reserved",
+        "a column",
+    ),
+    // The line of all sets.
+    ("sets x, y", 7, "`,`", "a name or the end of the line"),
+    (
+        "sets x y x",
+        10,
+        "`x`, which is a set already",
+        "another name",
+    ),
+    (
+        "sets desc",
+        6,
+        "`desc`, which is reserved",
+        "a name or the end of the line",
+    ),
+    (
+        "sets x none",
+        8,
+        "`none`, which stands for no set",
+        "another name",
+    ),
+];
+
+/// Whole texts that are bad, each with the line and the column of what was found, that,
+/// and what would do.
+const BAD_TEXTS: &[(&str, (usize, usize), &str, &str)] = &[
+    (
+        "produced (time)\ncolumns time",
+        (1, 1),
+        "`produced`, before the line `columns`",
+        "`columns` and the names of all columns",
+    ),
+    (
+        "# columns\n set x: a -> b",
+        (2, 2),
+        "`set`, before the line `columns`",
+        "`columns` and the names of all columns",
+    ),
+    (
+        "columns time, axis",
+        (1, 13),
+        "`,`",
+        "a name or the end of the line",
+    ),
+    (
+        "columns time axis time",
+        (1, 19),
+        "`time`, which is a column already",
+        "another name",
+    ),
+    (
+        "columns time desc",
+        (1, 14),
+        "`desc`, which is reserved",
+        "a name or the end of the line",
+    ),
+    (
+        "columns\nproduced (time)",
+        (2, 11),
+        "`time`, which is no column",
+        "a name more behind `columns`",
+    ),
+    (
+        "columns a b\nsets x\nsets y",
+        (3, 1),
+        "`sets`, a second line of all sets",
+        "one",
+    ),
+    (
+        "columns a b\nset x: a -> b\nsets x",
+        (3, 1),
+        "`sets`, behind a line `set`",
+        "a place before all of them",
+    ),
+    (
+        "columns a b\nsets filter join\nset fliter: a -> b",
+        (3, 5),
+        "`fliter`, which is not behind `sets`",
+        "`filter`",
+    ),
+    (
+        "columns a b\nsets filter join\nset x: a -> b",
+        (3, 5),
+        "`x`, which is not behind `sets`",
+        "`filter`, `join` or a name more behind `sets`",
+    ),
+    (
+        "columns a b\nsets\nset x: a -> b",
+        (3, 5),
+        "`x`, which is not behind `sets`",
+        "a name more behind `sets`",
+    ),
+];
+
+/// Reads bad input, and compares what is said of it.
+fn assert_error(text: &[u8], place: (usize, usize), found: &str, would_do: &str) {
+    let said = read(text).map_err(|error| {
+        let TextError { line, column, .. } = error;
+        ((line, column), error.found, error.would_do)
+    });
+    let expected = (place, found.to_owned(), would_do.to_owned());
+    assert_eq!(said, Err(expected), "{:?}", String::from_utf8_lossy(text));
+}
+
+#[test]
+fn bad_lines() {
+    for &(line, column, found, would_do) in BAD_LINES {
+        let alone = format!("{BEFORE}{line}");
+        assert_error(alone.as_bytes(), (3, column), found, would_do);
+        // What comes behind, whatever it is, changes nothing.
+        let followed = format!("{BEFORE}{line}\r\n@\ntested (time)");
+        assert_error(followed.as_bytes(), (3, column), found, would_do);
+    }
+}
+
+#[test]
+fn bad_texts() {
+    for &(text, place, found, would_do) in BAD_TEXTS {
+        assert_error(text.as_bytes(), place, found, would_do);
+    }
+}
+
+#[test]
+fn bytes_that_are_no_text() {
+    let text = |bytes: &[u8]| [BEFORE.as_bytes(), bytes].concat();
+    for (bytes, found) in [
+        (&b"tested (\xff)"[..], "the byte 255"),
+        (b"tested (\xc3", "the byte 195"),
+        (b"tested (\xe2\x82)", "the byte 226"),
+        (b"tested (\0)", "the byte 0"),
+        (b"tested (\x7f)", "the byte 127"),
+    ] {
+        assert_error(&text(bytes), (3, 9), found, "a name or a sign");
+    }
+    let wide = "tested (\u{20ac}\u{20ac})".as_bytes();
+    assert_error(&text(wide), (3, 9), "`\u{20ac}`", "a name or a sign");
+}
+
+/// The error of a text, shown with its line.
+fn shown(text: &[u8]) -> String {
+    match read(text) {
+        Ok(text) => panic!("no error in {text:?}"),
+        Err(error) => error.shown("q.txt", text),
+    }
+}
+
+#[test]
+fn an_error_is_shown_with_its_line_and_marks() {
+    let text = format!("{BEFORE}tested (time, cod)   # the report\nset x: time -> axis");
+    let expected = "q.txt:3:15: found `cod`, which is no column; `code` would do\n\
+        tested (time, cod)   # the report\n              ^^^";
+    assert_eq!(shown(text.as_bytes()), expected);
+
+    let text = b"columns\ta\n\tproduced\t(a\r\n";
+    let expected = "q.txt:2:13: found the end of the line; `,` or `)` would do\n\
+        \tproduced\t(a\n\t        \t  ^";
+    assert_eq!(shown(text), expected);
+
+    // Nothing that moves a terminal's cursor is shown again.
+    let text = b"columns 9\x1b[2J\xff # \x07";
+    let expected = "q.txt:1:9: found `9`; a name that begins with a letter would do\n\
+        columns 9\u{fffd}[2J\u{fffd} # \u{fffd}\n        ^";
+    assert_eq!(shown(text), expected);
+}
+
+#[test]
+fn orders_and_sets_that_stand_alone() {
+    let order = |argument: &str| order_names(argument.as_bytes());
+    assert_eq!(order("()"), Ok(vec![]));
+    assert_eq!(order("(time, code)"), Ok(names(&["time", "code"])));
+    assert_eq!(
+        order(" ( a,b,c,d,e ) "),
+        Ok(names(&["a", "b", "c", "d", "e"]))
+    );
+    let sets = |argument: &str| set_names(argument.as_bytes());
+    assert_eq!(sets("none"), Ok(vec![]));
+    assert_eq!(sets(" none "), Ok(vec![]));
+    assert_eq!(sets("filter"), Ok(names(&["filter"])));
+    assert_eq!(
+        sets("filter, join,filter"),
+        Ok(names(&["filter", "join", "filter"]))
+    );
+}
+
+#[test]
+fn bad_orders_and_sets_that_stand_alone() {
+    type Read = fn(&[u8]) -> Result<Vec<String>, TextError>;
+    let (order, sets): (Read, Read) = (order_names, set_names);
+    for (read, argument, column, found, would_do) in [
+        (
+            order,
+            "",
+            1,
+            "the end of the line",
+            "an order in parentheses",
+        ),
+        (order, "time", 1, "`time`", "an order in parentheses"),
+        (order, "(time", 6, "the end of the line", "`,` or `)`"),
+        (order, "(time) (axis)", 8, "`(`", "nothing behind the order"),
+        (order, "(time\n)", 6, "the byte 10", "a name or a sign"),
+        (
+            order,
+            "(desc)",
+            2,
+            "`desc`, which is reserved",
+            "a column or `)`",
+        ),
+        (sets, "", 1, "the end of the line", "`none` or a set"),
+        (sets, "1", 1, "`1`", "a name that begins with a letter"),
+        (sets, "filter join", 8, "`join`", "`,` or nothing"),
+        (sets, "filter,", 8, "the end of the line", "a set"),
+        (sets, "none,join", 5, "`,`", "nothing behind `none`"),
+        (
+            sets,
+            "filter,none",
+            8,
+            "`none`, which stands for no set",
+            "another name",
+        ),
+        (
+            sets,
+            "desc",
+            1,
+            "`desc`, which is reserved",
+            "`none` or a set",
+        ),
+    ] {
+        let error = read(argument.as_bytes()).expect_err(argument);
+        let said = (
+            error.line,
+            error.column,
+            &error.found[..],
+            &error.would_do[..],
+        );
+        assert_eq!(said, (1, column, found, would_do), "{argument:?}");
+    }
+}

@@ -1,0 +1,119 @@
+//! A query's items as types, as the proved library reads them.
+
+use std::ops::Deref;
+
+use crate::raw;
+use crate::refusal::{granted, Refusal};
+use crate::SetHandle;
+
+/// The most columns that an order or a dependency has.
+const MOST_COLUMNS: usize = 4;
+/// The kind of an equal; smaller kinds are fixes with so many left columns.
+const EQUAL_KIND: u8 = 4;
+
+/// The columns of an order, the most significant first, or the left ones of a fix.
+#[derive(Clone, Copy, Debug, PartialEq, Eq)]
+pub struct Columns {
+    columns: [u8; MOST_COLUMNS],
+    count: u8,
+}
+
+impl Columns {
+    /// The first ones of four columns.
+    fn first(columns: [u8; MOST_COLUMNS], count: u8) -> Self {
+        Self { columns, count }
+    }
+}
+
+impl Deref for Columns {
+    type Target = [u8];
+
+    fn deref(&self) -> &[u8] {
+        &self.columns[..self.count.into()]
+    }
+}
+
+/// What a dependency says about rows.
+#[derive(Clone, Copy, Debug, PartialEq, Eq)]
+pub enum Rule {
+    /// Rows alike in all left columns are alike in the right one. Without left columns
+    /// the right one is a constant.
+    Fix {
+        /// The 0 to 3 left columns.
+        left: Columns,
+        /// The right column.
+        right: u8,
+    },
+    /// Each row has one value in both columns.
+    Equal(u8, u8),
+}
+
+/// A dependency, and the set that brings it.
+#[derive(Clone, Copy, Debug, PartialEq, Eq)]
+pub struct Dependency {
+    /// The set.
+    pub set: SetHandle,
+    /// What the dependency says.
+    pub rule: Rule,
+}
+
+/// A query's bytes that pass the checks 1 to 6. It may still be refused with
+/// [`Refusal::States`] when its table is built.
+#[derive(Clone, Copy, Debug, PartialEq, Eq)]
+pub struct Query<'a> {
+    bytes: &'a [u8],
+}
+
+impl<'a> Query<'a> {
+    /// The query that some bytes are, or which of the checks 1 to 6 refuses them.
+    pub fn new(bytes: &'a [u8]) -> Result<Self, Refusal> {
+        granted(raw::query_check(bytes)).map(|()| Self { bytes })
+    }
+
+    /// How many columns there are.
+    pub fn columns(self) -> u8 {
+        self.bytes[0]
+    }
+
+    /// The orders that an operator can make.
+    pub fn produced(self) -> impl Iterator<Item = Columns> + 'a {
+        (0..self.bytes[1]).map(move |i| self.order(i))
+    }
+
+    /// The orders that are only looked for.
+    pub fn tested(self) -> impl Iterator<Item = Columns> + 'a {
+        let (produced, tested) = (self.bytes[1], self.bytes[2]);
+        (produced..produced + tested).map(move |i| self.order(i))
+    }
+
+    /// How many sets there are, empty ones included.
+    pub fn sets(self) -> u8 {
+        self.bytes[3]
+    }
+
+    /// The dependencies of all sets.
+    pub fn dependencies(self) -> impl Iterator<Item = Dependency> + 'a {
+        (0..self.bytes[4]).map(move |i| self.dependency(i))
+    }
+
+    /// Interesting order i.
+    fn order(self, i: u8) -> Columns {
+        let [length, a, b, c, d, ..] = raw::query_order(self.bytes, i).to_le_bytes();
+        Columns::first([a, b, c, d], length)
+    }
+
+    /// Dependency i.
+    fn dependency(self, i: u8) -> Dependency {
+        let [set, kind, a, b, c, d, ..] = raw::query_dependency(self.bytes, i).to_le_bytes();
+        let columns = [a, b, c, d];
+        let rule = match kind {
+            EQUAL_KIND => Rule::Equal(a, b),
+            lefts => Rule::Fix {
+                left: Columns::first(columns, lefts),
+                right: columns[usize::from(lefts)],
+            },
+        };
+        let set = SetHandle(set);
+        Dependency { set, rule }
+    }
+}
