@@ -4,8 +4,6 @@ use std::ffi::{OsStr, OsString};
 use std::fs::File;
 use std::io::{self, Read};
 
-use order_tables::Table;
-
 use crate::counterexample::{counterexample, Asked};
 use crate::draw::draw;
 use crate::explain::explain;
@@ -46,12 +44,12 @@ pub fn run(arguments: &[OsString], input: &mut dyn Read) -> Result<Vec<u8>, Fail
         (Command::Explain, [file]) => {
             let query = files.query(file)?;
             let table = query.table()?;
-            Ok(explain(&query.query, Table::new(&table)).into())
+            Ok(explain(query.states(&table)).into())
         }
         (Command::Draw, [file]) => {
             let query = files.query(file)?;
             let table = query.table()?;
-            Ok(draw(&query.query, Table::new(&table)).into())
+            Ok(draw(query.states(&table)).into())
         }
         (Command::Verify, [query, table]) => {
             let (query, (name, table)) = (files.read(query)?, files.read(table)?);

@@ -49,29 +49,25 @@ pub fn counterexample(query: &Loaded, asked: &Asked) -> Result<String, Failure> 
         let what = found.expect_err("only what the query does not have is refused");
         refused(&query.file, refusal, &what)
     })?;
-    let order = named_order(&asked.order);
-    let produced = named_order(&asked.produced);
-    let sets = joined(&asked.sets, "and");
     Ok(match shown {
-        None => {
-            let obeying = match asked.sets[..] {
-                [] => String::new(),
-                _ => format!(" and obey {sets}"),
-            };
-            format!("none: all rows that stand in {produced}{obeying} stand in {order}, and no sort is needed.\n")
-        }
+        None => none(asked),
         Some(two_rows) => {
-            let obeying = match asked.sets[..] {
-                [] => "with no set in force".to_owned(),
-                _ => format!("obey {sets}"),
-            };
             let table = table(&query.query, two_rows);
-            let why = why(&query.query, &asked.order, two_rows);
-            format!(
-                "{table}\nThese rows stand in {produced}, {obeying}, and do not stand in {order}:\n{why}\nSo a sort by {order} is needed.\n"
-            )
+            let why = why(&query.query, asked, two_rows);
+            format!("{table}\n{why}")
         }
     })
+}
+
+/// That there are no rows that break the order.
+fn none(asked: &Asked) -> String {
+    let [produced, order] = [&asked.produced, &asked.order].map(|names| named_order(names));
+    let obeying = match &asked.sets[..] {
+        [] => String::new(),
+        sets => format!(" and obey {}", joined(sets, "and")),
+    };
+    let all = format!("all rows that stand in {produced}{obeying} stand in {order}");
+    format!("none: {all}, and no sort is needed.\n")
 }
 
 /// What is asked in the query's numbers, or what of it the query does not have.
@@ -148,22 +144,33 @@ fn cells(row: &[u8]) -> Vec<String> {
     row.iter().map(u8::to_string).collect()
 }
 
-/// Why two rows do not stand in an order: the first of its columns in which they differ.
-fn why(query: &Query, order: &[String], TwoRows { first, second }: TwoRows) -> String {
+/// What two rows show: what they stand in and obey, and the first column of the order
+/// looked for in which they differ.
+fn why(query: &Query, asked: &Asked, TwoRows { first, second }: TwoRows) -> String {
     let values = |name: &String| {
         let column = query.columns.iter().position(|column| column == name);
-        column.map(|column| (first[column], second[column]))
+        column.map(|column| [first[column], second[column]])
     };
-    let alike = order
-        .iter()
-        .take_while(|&name| values(name).is_some_and(|(one, other)| one == other));
-    let alike: Vec<String> = alike.cloned().collect();
-    let differing = order.get(alike.len());
-    let (one, other) = differing.and_then(values).unwrap_or_default();
-    let differing = differing.map(String::as_str).unwrap_or_default();
-    let alike = match alike[..] {
+    let is_alike = |name: &&String| values(name).is_some_and(|[one, other]| one == other);
+    let alike = asked.order.iter().take_while(is_alike).cloned();
+    let alike: Vec<String> = alike.collect();
+    let differing = asked.order.get(alike.len());
+    let differing = differing.expect("rows that break an order differ in one of its columns");
+    let [one, other] = values(differing).unwrap_or_default();
+
+    let [produced, order] = [&asked.produced, &asked.order].map(|names| named_order(names));
+    let obeying = match &asked.sets[..] {
+        [] => "with no set in force".to_owned(),
+        sets => format!("obey {}", joined(sets, "and")),
+    };
+    let alike = match &alike[..] {
         [] => String::new(),
-        _ => format!("they are alike in {}, and ", joined(&alike, "and")),
+        alike => format!("they are alike in {}, and ", joined(alike, "and")),
     };
-    format!("{alike}in {differing} the first has {one} and the second {other}.")
+    [
+        format!("These rows stand in {produced}, {obeying}, and do not stand in {order}:\n"),
+        format!("{alike}in {differing} the first has {one} and the second {other}.\n"),
+        format!("So a sort by {order} is needed.\n"),
+    ]
+    .concat()
 }

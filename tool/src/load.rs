@@ -1,10 +1,11 @@
 //! A query from a file, and its table.
 
-use order_tables::{build, Query as Proved, Refusal, LONGEST_TABLE, SCRATCH_BYTES};
+use order_tables::{build, Query as Proved, Refusal, Table, LONGEST_TABLE, SCRATCH_BYTES};
 
 use crate::failure::Failure;
 use crate::query::Query;
 use crate::refusals::{of_query, of_query_sizes, refused};
+use crate::states::States;
 use crate::text::{self, Text};
 use crate::words::joined;
 
@@ -75,13 +76,21 @@ impl Loaded {
         output.truncate(length);
         Ok(output)
     }
+
+    /// The states of a table that has the form and the query's sizes.
+    pub fn states<'t>(&'t self, table: &'t [u8]) -> States<'t> {
+        States {
+            query: &self.query,
+            table: Table::new(table),
+        }
+    }
 }
 
 /// What is said of bytes that may have been meant as text: their first one is a blank, or
 /// no character of ASCII.
 fn meant_as_text(bytes: &[u8]) -> Option<String> {
     let first = bytes.first()?;
-    let meant = matches!(first, b'\t'..=b'\r' | 128..);
+    let meant = matches!(first, b'\t' | b'\n' | b'\r' | 128..);
     meant.then(|| {
         format!("; read as bytes, since the first one is {first} and a text's is 32 to 126")
     })

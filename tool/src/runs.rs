@@ -8,17 +8,17 @@ use order_tables::SetHandle;
 /// All that runs of sets reach from a start, each once with the shortest run that leads
 /// to it; of equally short ones with the one that has the smaller set numbers. Shorter
 /// runs come first, and equally short ones by their set numbers.
-pub struct Runs<P, F> {
-    sets: u8,
+pub struct Runs<P, S, F> {
+    sets: S,
     take: F,
     seen: HashSet<P>,
     waiting: VecDeque<(P, Vec<SetHandle>)>,
 }
 
-impl<P: Copy + Eq + Hash, F: Fn(P, SetHandle) -> P> Runs<P, F> {
-    /// The runs of so many sets from a start, where taking a set in a place leads to
-    /// another one.
-    pub fn new(start: P, sets: u8, take: F) -> Self {
+impl<P: Copy + Eq + Hash, S, F> Runs<P, S, F> {
+    /// The runs of these sets, which come by their numbers, from a start, where taking a
+    /// set in a place leads to another one.
+    pub fn new(start: P, sets: S, take: F) -> Self {
         Self {
             sets,
             take,
@@ -28,12 +28,17 @@ impl<P: Copy + Eq + Hash, F: Fn(P, SetHandle) -> P> Runs<P, F> {
     }
 }
 
-impl<P: Copy + Eq + Hash, F: Fn(P, SetHandle) -> P> Iterator for Runs<P, F> {
+impl<P, S, F> Iterator for Runs<P, S, F>
+where
+    P: Copy + Eq + Hash,
+    S: Iterator<Item = SetHandle> + Clone,
+    F: Fn(P, SetHandle) -> P,
+{
     type Item = (P, Vec<SetHandle>);
 
     fn next(&mut self) -> Option<Self::Item> {
         let (place, run) = self.waiting.pop_front()?;
-        for set in (0..self.sets).map(SetHandle) {
+        for set in self.sets.clone() {
             let next = (self.take)(place, set);
             if self.seen.insert(next) {
                 let mut longer = run.clone();
@@ -60,7 +65,7 @@ mod tests {
             (3, 2) => 4,
             (place, _) => place,
         };
-        let runs = Runs::new(0, 3, take);
+        let runs = Runs::new(0, (0..3).map(SetHandle), take);
         let runs = runs.map(|(place, run)| (place, run.iter().map(|set| set.0).collect()));
         let runs: Vec<(u8, Vec<u8>)> = runs.collect();
         let expected = [

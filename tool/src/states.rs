@@ -11,24 +11,19 @@ use crate::words::joined;
 /// Why lookups are granted.
 const GRANTED: &str = "a lookup is granted in a table that has the form and the query's sizes";
 
-/// The states of a table that passes the table check and has the query's sizes.
+/// The states of a table that passes the table check and has the sizes of a query.
 #[derive(Clone, Copy, Debug)]
 pub struct States<'t> {
-    query: &'t Query,
-    table: Table<'t>,
+    /// The query.
+    pub query: &'t Query,
+    /// The table.
+    pub table: Table<'t>,
 }
 
 impl<'t> States<'t> {
-    /// The states of a table for a query.
-    pub fn new(query: &'t Query, table: Table<'t>) -> Self {
-        Self { query, table }
-    }
-
     /// The state that a produced order starts in.
-    pub fn start(self, produced: usize) -> StateNumber {
-        self.table
-            .enter(OrderHandle(produced as u8))
-            .expect(GRANTED)
+    pub fn start(self, produced: OrderHandle) -> StateNumber {
+        self.table.enter(produced).expect(GRANTED)
     }
 
     /// The state that a set leads to.
@@ -41,50 +36,57 @@ impl<'t> States<'t> {
         self.table.word(state).expect(GRANTED)
     }
 
+    /// The produced orders, each with its number.
+    pub fn produced(self) -> impl Iterator<Item = (OrderHandle, String)> + use<'t> {
+        let orders = (0..).map(OrderHandle).zip(&self.query.produced);
+        orders.map(move |(handle, order)| (handle, self.query.order_text(order)))
+    }
+
+    /// The sets.
+    pub fn sets(self) -> impl Iterator<Item = SetHandle> + Clone + use<'t> {
+        let sets = (0..).map(SetHandle).zip(&self.query.sets);
+        sets.map(|(handle, _)| handle)
+    }
+
     /// The states that a produced order leads to, each with the shortest run.
     pub fn runs(
         self,
-        produced: usize,
+        produced: OrderHandle,
     ) -> impl Iterator<Item = (StateNumber, Vec<SetHandle>)> + use<'t> {
         let take = move |state, set| self.after(state, set);
-        Runs::new(self.start(produced), sets(self.query), take)
+        Runs::new(self.start(produced), self.sets(), take)
     }
 
     /// All states that a start leads to, in the order of their numbers.
     pub fn reached(self) -> BTreeSet<StateNumber> {
-        let produced = 0..self.query.produced.len();
-        produced
-            .flat_map(|produced| self.runs(produced))
-            .map(|(state, _)| state)
+        let runs = self.produced().flat_map(|(handle, _)| self.runs(handle));
+        runs.map(|(state, _)| state).collect()
+    }
+
+    /// The orders whose bits are 1 in a word.
+    pub fn held(self, word: HeldWord) -> Vec<String> {
+        let orders = (0..).map(OrderHandle).zip(self.query.interesting());
+        let held = orders.filter(|(handle, _)| word.holds(*handle));
+        held.map(|(_, order)| self.query.order_text(order))
             .collect()
     }
-}
 
-/// How many sets a query has, whose sizes are within their limits.
-pub fn sets(query: &Query) -> u8 {
-    query.sets.len() as u8
-}
+    /// The names of some sets.
+    pub fn set_names(self, sets: &[SetHandle]) -> Vec<String> {
+        let names = sets.iter().map(|set| &self.query.sets[usize::from(set.0)]);
+        names.cloned().collect()
+    }
 
-/// The orders whose bits are 1 in a word.
-pub fn held(query: &Query, word: HeldWord) -> Vec<String> {
-    let orders = (0..).map(OrderHandle).zip(query.interesting());
-    let held = orders.filter(|(handle, _)| word.holds(*handle));
-    held.map(|(_, order)| query.order_text(order)).collect()
-}
-
-/// A run in words: the names of its sets, or that it is at the start.
-pub fn run_text(query: &Query, run: &[SetHandle]) -> String {
-    let names: Vec<String> = set_names(query, run);
-    match run {
-        [] => "at the start".to_owned(),
-        _ => format!("after {}", joined(&names, "and")),
+    /// A run in words: that it is at the start, or the names of its sets.
+    pub fn run_text(self, run: &[SetHandle]) -> String {
+        match run {
+            [] => "at the start".to_owned(),
+            _ => format!("after {}", joined(&self.set_names(run), "and")),
+        }
     }
 }
 
-/// The names of some sets.
-pub fn set_names(query: &Query, sets: &[SetHandle]) -> Vec<String> {
-    let names = sets
-        .iter()
-        .map(|set| query.sets[usize::from(set.0)].clone());
-    names.collect()
+/// A state as the listing calls it.
+pub fn state_text(state: StateNumber) -> String {
+    format!("state {}", state.0)
 }

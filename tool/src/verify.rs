@@ -7,20 +7,20 @@ use crate::load::Loaded;
 use crate::query::Query;
 use crate::refusals::{of_table, refused, QUERY_SIZES};
 use crate::runs::Runs;
-use crate::states::{run_text, sets, States};
+use crate::states::States;
 use crate::words::{counted, joined};
 
 /// Puts a supplier's table, from a file, on trial for a query. A refusal of the query
 /// speaks of the query's file, any other of the table's.
 pub fn verify(query: &Loaded, file: &str, supplied: &[u8]) -> Result<(), Failure> {
     let own = query.table()?;
-    let (own, table) = (Table::new(&own), Table::new(supplied));
+    let table = Table::new(supplied);
     let verified = order_tables::verify(&query.bytes, table, &mut [0; SCRATCH_BYTES]);
     verified.map_err(|refusal| {
         let what = match refusal {
             Refusal::Row => stray(&query.query, table),
             Refusal::Mismatch => mismatch(query, table),
-            Refusal::Answer => wrong_answer(&query.query, own, table),
+            Refusal::Answer => wrong_answer(query.states(&own), query.states(supplied)),
             _ => of_table(refusal, supplied),
         };
         refused(file, refusal, &what)
@@ -92,38 +92,39 @@ fn mismatch(query: &Loaded, table: Table) -> String {
     format!("it has {supplied}, and {} has {asked}", query.file)
 }
 
-/// The shortest run after which the tables answer otherwise, and the orders of which they
-/// do; of equally short runs the one of smaller set numbers, and then the one from the
-/// first produced order.
-fn wrong_answer(query: &Query, own: Table, supplied: Table) -> String {
-    let [own, supplied] = [own, supplied].map(|table| States::new(query, table));
-    let first_wrong = |produced| {
+/// The shortest run after which two tables answer otherwise, ours and the supplier's, and
+/// the orders of which they do; of equally short runs the one of smaller set numbers, and
+/// then the one from the first produced order.
+fn wrong_answer(own: States, supplied: States) -> String {
+    let first_wrong = |(produced, order)| {
         let starts = [own, supplied].map(|states| states.start(produced));
         let take = |[ours, theirs]: [StateNumber; 2], set| {
             [own.after(ours, set), supplied.after(theirs, set)]
         };
-        let mut pairs = Runs::new(starts, sets(query), take).map(|([ours, theirs], run)| {
-            let words = [own.word(ours), supplied.word(theirs)];
-            (run, produced, words)
-        });
-        pairs.find(|(_, _, [ours, theirs])| ours != theirs)
+        let words = |[ours, theirs]: [StateNumber; 2]| [own.word(ours), supplied.word(theirs)];
+        let runs = Runs::new(starts, own.sets(), take);
+        let mut answers = runs.map(|(pair, run)| (run, words(pair)));
+        let wrong = answers.find(|(_, [ours, theirs])| ours != theirs);
+        wrong.map(|(run, words)| (run, order, words))
     };
-    let wrong = (0..query.produced.len()).filter_map(first_wrong);
+    let wrong = own.produced().filter_map(first_wrong);
     let shortest = wrong.min_by_key(|(run, ..)| (run.len(), run.clone()));
-    let (run, produced, [ours, theirs]) =
+    let (run, order, words) =
         shortest.expect("a table that is refused with 13 gives a wrong answer");
+    let (run, wrong) = (own.run_text(&run), wrong_orders(own.query, words));
+    format!("entered by {order}, {run}, it says {wrong}")
+}
 
+/// The orders of which two words, ours and the supplier's, say otherwise.
+fn wrong_orders(query: &Query, words: [HeldWord; 2]) -> String {
     let orders = (0..).map(OrderHandle).zip(query.interesting());
     let wrong = orders.filter_map(|(handle, order)| {
         let order = query.order_text(order);
-        match [ours, theirs].map(|word| word.holds(handle)) {
+        match words.map(|word| word.holds(handle)) {
             [false, true] => Some(format!("that {order} is held, which it is not")),
             [true, false] => Some(format!("that {order} is not held, which it is")),
             _ => None,
         }
     });
-    let wrong = wrong.collect::<Vec<String>>().join(", and ");
-    let produced = query.order_text(&query.produced[produced]);
-    let run = run_text(query, &run);
-    format!("entered by {produced}, {run}, it says {wrong}")
+    wrong.collect::<Vec<String>>().join(", and ")
 }
