@@ -1,6 +1,6 @@
 #!/usr/bin/env bash
 # The whole check: the second implementation's tests, every proof, must-fail edit and program, then the comparison of the proved library and
-# the programs with the second implementation, the trials and the examples. After the proofs it prints what each crate took, the table of
+# the programs with the second implementation, the trials, the tool and the examples. After the proofs it prints what each crate took, the table of
 # docs/CHANGES.md. It ends in the line `N passed, 0 failed` of the proofs.
 set -euo pipefail
 cd "$(dirname "$0")"
@@ -16,5 +16,7 @@ rt check order_listing order_verify order_counterexample
 cargo test --release --offline --locked -p order_tables
 cargo test --release --offline --locked -p differential -- --nocapture
 cargo test --release --offline --locked -p benchmarks
+cargo test --release --offline --locked -p order_tables_tool
+cargo build --release --offline --locked -p order_tables_tool
 examples/run.sh
 tail -n 1 "$proofs"

@@ -1,8 +1,9 @@
 #!/usr/bin/env bash
 # Builds each example in C and in Rust on the proved library, runs both, and compares what they print with the example's file .expected. Then runs
-# the commands that README.md shows for a supplier's table and for two rows, and compares what they print with what stands there.
-# The library is in the folder that ORDER_TABLES_LIB names, or where `rt staticlib order_tables` writes it. `rt check order_verify
-# order_counterexample` makes the programs that the commands run.
+# the commands that README.md shows, and compares what they print with what stands there, and makes the picture of the first query where Graphviz is
+# installed.
+# The library is in the folder that ORDER_TABLES_LIB names, or where `rt staticlib order_tables` writes it. `rt check order_listing order_verify
+# order_counterexample` makes the programs that the commands run, and `cargo build --release -p order_tables_tool` the tool.
 set -euo pipefail
 cd "$(dirname "$0")/.."
 library=${ORDER_TABLES_LIB:-target/staticlib}
@@ -15,7 +16,7 @@ for example in plan verify counterexample; do
     echo "both examples print examples/$example.expected"
 done
 
-# Runs the block of commands in a section of README.md, and compares what they print with what the block shows.
+# Runs the blocks of commands in a section of README.md, and compares what they print, errors too, with what the blocks show.
 run_shown() { # SECTION
     local shown commands
     shown=$(awk -v heading="## $1" '
@@ -25,9 +26,17 @@ run_shown() { # SECTION
     commands=$(grep '^\$ ' <<< "$shown") || { echo "README.md shows no commands under \"$1\"" >&2; exit 1; }
     while IFS= read -r command; do
         echo "$command"
-        bash -c "${command#'$ '}" < /dev/null
+        bash -c "${command#'$ '}" < /dev/null 2>&1
     done <<< "$commands" | diff <(echo "$shown") -
     echo "$(wc -l <<< "$commands") commands print what README.md shows under \"$1\""
 }
+run_shown "A first query"
 run_shown "A supplier's table on trial"
 run_shown "Two rows that show why a sort is needed"
+
+if command -v dot > /dev/null; then
+    target/release/order_tables draw examples/first.txt | dot -Tsvg > target/first.svg
+    echo "target/first.svg is the picture of the first query"
+else
+    echo "Graphviz is not installed, and the first query's graph stays text"
+fi

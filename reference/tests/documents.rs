@@ -181,10 +181,12 @@ fn the_readme_shows_rows_that_break_the_order_and_where_there_are_none() {
 fn the_readme_has_the_listing_and_the_query() {
     let example = trials::example();
     let readme = document("README.md");
-    let quoted = format!("\n```\n{}```\n", example.listing());
-    assert!(section(&readme, "Two commands").contains(&quoted));
-    let bytes = section(&readme, "A first query, byte by byte");
-    let length = format!("`examples/first.query` has {} bytes.", example.query.len());
+    let listed =
+        "$ target/release/order_tables encode examples/first.txt | target/bin/order_listing";
+    let quoted = format!("\n{listed}\n{}$ ", example.listing());
+    assert!(section(&readme, "A first query").contains(&quoted));
+    let bytes = section(&readme, "The first query, byte by byte");
+    let length = format!("`examples/first.query` has {} bytes,", example.query.len());
     assert!(bytes.contains(&length));
     assert_eq!(quoted_bytes(bytes), example.query);
 }

@@ -1,14 +1,48 @@
 //! The types on the listing's example, and on trials that are refused or have a
 //! supplier's table.
 
-use order_tables::{build, counterexample, list, verify};
+use order_tables::{build, counterexample, list, verify, Query, Rule};
 use order_tables::{HeldWord, OrderHandle, Refusal, SetChoice, SetHandle, StateNumber, Table};
 use order_tables::{LISTING_BYTES, LONGEST_TABLE, SCRATCH_BYTES, TWO_ROWS_BYTES};
 use reference::counterexample::check;
-use reference::trials;
+use reference::random::Random;
+use reference::{samples, trials, Dependency};
 
 fn build_in(query: &[u8], scratch: usize, output: usize) -> Result<usize, Refusal> {
     build(query, &mut vec![0; scratch], &mut vec![0; output])
+}
+
+/// A query as the library reads it, in the second implementation's types.
+fn read(bytes: &[u8]) -> Result<reference::Query, Refusal> {
+    let query = Query::new(bytes)?;
+    let dependencies = query.dependencies().map(|dependency| {
+        let set = dependency.set.0;
+        match dependency.rule {
+            Rule::Fix { left, right } => Dependency::fix(set, &left, right),
+            Rule::Equal(one, other) => Dependency::equal(set, one, other),
+        }
+    });
+    Ok(reference::Query {
+        columns: query.columns(),
+        produced: query.produced().map(|order| order.to_vec()).collect(),
+        tested: query.tested().map(|order| order.to_vec()).collect(),
+        sets: query.sets(),
+        dependencies: dependencies.collect(),
+    })
+}
+
+#[test]
+fn reads_queries() {
+    let mut random = Random::new(1);
+    let trials = trials::all().into_iter().map(|trial| trial.query);
+    let random = (0..1000).map(|_| samples::any_query(&mut random));
+    let mut outcomes = [0; 2];
+    for query in trials.chain(random) {
+        let expected = reference::Query::read(&query);
+        outcomes[usize::from(expected.is_ok())] += 1;
+        assert_eq!(read(&query).map_err(Refusal::number), expected, "{query:?}");
+    }
+    assert!(outcomes.iter().all(|&count| count > 100), "{outcomes:?}");
 }
 
 #[test]

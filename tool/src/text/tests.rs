@@ -3,7 +3,9 @@
 use super::{is_text, order_names, read, set_names, write, Text, TextError};
 use crate::query::{Dependency, Query, Rule};
 
-/// The example of docs/FORMAT.md.
+/// The document that has the grammar.
+const FORMAT: &str = include_str!("../../../docs/FORMAT.md");
+/// Its example.
 const EXAMPLE: &str = "\
 columns time axis code
 produced (time) (time, axis)
@@ -62,6 +64,7 @@ fn the_example_is_read_and_written() {
     let text = read(EXAMPLE.as_bytes());
     assert_eq!(text, Ok(Text { query, lines }));
     assert_eq!(write(&example()), EXAMPLE);
+    assert!(FORMAT.contains(&format!("\n```\n{EXAMPLE}```\n")));
 }
 
 #[test]
