@@ -13,21 +13,18 @@ use crate::load::Loaded;
 use crate::near::one_of;
 use crate::text::{self, TextError};
 use crate::verify::verify;
-use crate::words::{counted, quoted};
+use crate::words::{counted, printable, quoted};
 
 /// The argument that stands for standard input.
 const STANDARD_INPUT: &str = "-";
 /// The argument that asks for help.
 const ASKS_FOR_HELP: &str = "--help";
-/// The most bytes of a text. Of a query in bytes, or of a table, so many are enough to
-/// see that it is too long.
-const MOST_BYTES: usize = 1 << 20;
 
 /// Does what the arguments say, which are those behind the program's name. Gives what is
 /// to be printed.
 pub fn run(arguments: &[OsString], input: &mut dyn Read) -> Result<Vec<u8>, Failure> {
     let Some((name, arguments)) = arguments.split_first() else {
-        return Err(misuse("a command is missing", &help()));
+        return Err(misuse("a command is missing", &usage()));
     };
     if name == ASKS_FOR_HELP {
         return Ok(help().into());
@@ -37,23 +34,32 @@ pub fn run(arguments: &[OsString], input: &mut dyn Read) -> Result<Vec<u8>, Fail
         return Ok(command.help().into());
     }
     check(command, arguments)?;
-    let mut files = Files { input };
+    do_command(command, arguments, &mut Files { input })
+}
+
+/// Does a command with its arguments.
+fn do_command(
+    command: Command,
+    arguments: &[OsString],
+    files: &mut Files,
+) -> Result<Vec<u8>, Failure> {
     match (command, arguments) {
         (Command::Encode, [file]) => Ok(files.query(file)?.bytes),
         (Command::Decode, [file]) => Ok(text::write(&files.query(file)?.query).into()),
-        (Command::Explain, [file]) => {
+        (Command::Explain | Command::Draw, [file]) => {
             let query = files.query(file)?;
             let table = query.table()?;
-            Ok(explain(query.states(&table)).into())
-        }
-        (Command::Draw, [file]) => {
-            let query = files.query(file)?;
-            let table = query.table()?;
-            Ok(draw(query.states(&table)).into())
+            let tell = if command == Command::Draw {
+                draw
+            } else {
+                explain
+            };
+            Ok(tell(query.states(&table)).into())
         }
         (Command::Verify, [query, table]) => {
-            let (query, (name, table)) = (files.read(query)?, files.read(table)?);
-            verify(&loaded(query)?, &name, &table)?;
+            let (query, table) = (files.read(query)?, files.read(table)?);
+            let query = Loaded::new(&query.name, query.content)?;
+            verify(&query, &table.name, &table.content)?;
             Ok("accepted\n".into())
         }
         (Command::Counterexample, [query, produced, sets, order]) => {
@@ -77,8 +83,7 @@ fn find_command(name: &OsStr) -> Result<Command, Failure> {
     let command = commands.find(|command| name == command.name());
     command.ok_or_else(|| {
         let name = name.to_string_lossy();
-        let names = Command::ALL.map(Command::name);
-        let would_do = one_of(&name, &names, None);
+        let would_do = one_of(&name, &Command::ALL.map(Command::name), None);
         let what = format!("{} is no command; {would_do} would do", quoted(&name));
         misuse(&what, &usage())
     })
@@ -112,7 +117,7 @@ fn names(
 ) -> Result<Vec<String>, Failure> {
     read(argument.as_encoded_bytes()).map_err(|error| {
         let argument = quoted(argument.to_string_lossy());
-        let what = format!("in {argument}, column {}: {error}", error.column);
+        let what = format!("in {argument}, character {}: {error}", error.column);
         misuse(&what, &command.usage())
     })
 }
@@ -122,47 +127,49 @@ fn misuse(what: &str, usage: &str) -> Failure {
     Failure::Unusable(format!("order_tables: {what}\n{usage}"))
 }
 
+/// A file that has been read, as far as is needed.
+struct Contents {
+    /// What the file is called.
+    name: String,
+    /// Its bytes, or the first of them: one more than a text may have, which is more than
+    /// a query in bytes or a table may have.
+    content: Vec<u8>,
+}
+
 /// The files that arguments name, and standard input.
 struct Files<'i> {
     input: &'i mut dyn Read,
 }
 
 impl Files<'_> {
-    /// Reads the file that an argument names, or as much of it as is needed.
-    fn read(&mut self, argument: &OsStr) -> Result<(String, Vec<u8>), Failure> {
-        let standard = argument == STANDARD_INPUT;
-        let name = match standard {
-            true => "standard input".to_owned(),
-            false => argument.to_string_lossy().into_owned(),
+    /// Reads the file that an argument names.
+    fn read(&mut self, argument: &OsStr) -> Result<Contents, Failure> {
+        let name = match argument.to_string_lossy() {
+            argument if argument == STANDARD_INPUT => "standard input".to_owned(),
+            argument if argument.is_empty() => quoted(argument),
+            argument => printable(&argument),
         };
-        let content = match standard {
+        let content = match argument == STANDARD_INPUT {
             true => first_bytes(&mut self.input),
             false => File::open(argument).and_then(first_bytes),
         };
         match content {
-            Ok(content) => Ok((name, content)),
+            Ok(content) => Ok(Contents { name, content }),
             Err(error) => Err(Failure::Unusable(format!("{name}: {error}"))),
         }
     }
 
     /// Reads the query in the file that an argument names.
     fn query(&mut self, argument: &OsStr) -> Result<Loaded, Failure> {
-        self.read(argument).and_then(loaded)
+        let Contents { name, content } = self.read(argument)?;
+        Loaded::new(&name, content)
     }
 }
 
 /// The first bytes of a file, one more at the most than a text may have.
 fn first_bytes(file: impl Read) -> io::Result<Vec<u8>> {
+    let most = text::MOST_BYTES as u64 + 1;
     let mut bytes = Vec::new();
-    file.take(MOST_BYTES as u64 + 1).read_to_end(&mut bytes)?;
+    file.take(most).read_to_end(&mut bytes)?;
     Ok(bytes)
-}
-
-/// The query in a file that has been read.
-fn loaded((name, content): (String, Vec<u8>)) -> Result<Loaded, Failure> {
-    if text::is_text(&content) && content.len() > MOST_BYTES {
-        let what = format!("{name}: a text has at most {MOST_BYTES} bytes");
-        return Err(Failure::Unusable(what));
-    }
-    Loaded::new(&name, content)
 }

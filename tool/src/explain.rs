@@ -2,9 +2,9 @@
 
 use order_tables::{HeldWord, SetHandle, StateNumber};
 
-use crate::refusals::QUERY_SIZES;
+use crate::sizes::{sizes_text, states_text};
 use crate::states::{state_text, States};
-use crate::words::{counted, joined};
+use crate::words::joined;
 
 /// A query's table in words: from each produced order the states that it leads to, each
 /// with the shortest run of sets and the orders that it holds; what each set adds to the
@@ -14,8 +14,9 @@ pub fn explain(states: States) -> String {
     for (produced, order) in states.produced() {
         lines.push(format!("\nEntered by {order}:"));
         lines.extend(states.runs(produced).map(|(state, run)| {
-            let held = states.held(states.word(state));
-            let (run, held) = (states.run_text(&run), joined(&held, "and"));
+            // In a table that is built, the same sets lead to one state in any sequence.
+            let run = states.run_text(&run, |sets| joined(sets, "and"));
+            let held = joined(&states.held(states.word(state)), "and");
             format!("  {}, {run}, holds {held}.", state_text(state))
         }));
     }
@@ -34,11 +35,10 @@ pub fn explain(states: States) -> String {
 
 /// How many states, orders and sets there are.
 fn sizes(states: States) -> String {
-    let reached = counted(states.reached().len(), ["state", "states"]);
+    let reached = states_text(states.reached().len());
     let [_, produced, tested, sets, _] = states.query.sizes();
-    let sizes = [produced, tested, sets].into_iter().zip(&QUERY_SIZES[1..4]);
-    let sizes: Vec<String> = sizes.map(|(size, &of)| counted(size, of)).collect();
-    format!("The table has {reached} for {}.", joined(&sizes, "and"))
+    let sizes = sizes_text([produced, tested, sets]);
+    format!("The table has {reached} for {sizes}.")
 }
 
 /// What each set adds to the orders that a state holds. The sets that change nothing come

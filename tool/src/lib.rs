@@ -3,29 +3,31 @@
 //! two rows for an order that is not held.
 //!
 //! Nothing is decided here. Every table, trial and pair of rows comes from the proved
-//! library, by way of [`order_tables`]; where a refusal is told in words, what is refused
-//! is found by asking the library again.
+//! library, by way of [`order_tables`]; where a refusal is told in words, which size, item
+//! or answer is refused is found by asking the library again.
 //!
 //! [`command`] reads the command line and [`help`] has what is said of it. [`load`] reads
-//! a query, as [`mod@text`] or as bytes, into a [`query`] with names. [`mod@explain`],
-//! [`mod@draw`], [`mod@verify`] and [`mod@counterexample`] do what the commands of these
-//! names do, over [`states`] and [`runs`]. [`refusals`] and [`failure`] say why something
-//! is not done, and [`mod@near`] what a misspelt name may mean.
+//! a query, as [`mod@text`] or as bytes, into a `query` with names. `explain`, `draw`,
+//! `verify` and `counterexample` do what the commands of these names do, over `states`
+//! and `runs`. `refusals` and [`failure`] say why something is not done, with `sizes` and
+//! `items`, and `near` what a misspelt name may mean.
 
 #![forbid(unsafe_code)]
 
 pub mod command;
-pub mod counterexample;
-pub mod draw;
-pub mod explain;
+mod counterexample;
+mod draw;
+mod explain;
 pub mod failure;
 pub mod help;
+mod items;
 pub mod load;
-pub mod near;
-pub mod query;
-pub mod refusals;
-pub mod runs;
-pub mod states;
+mod near;
+mod query;
+mod refusals;
+mod runs;
+mod sizes;
+mod states;
 pub mod text;
-pub mod verify;
+mod verify;
 mod words;

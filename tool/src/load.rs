@@ -1,18 +1,20 @@
 //! A query from a file, and its table.
 
-use order_tables::{build, Query as Proved, Refusal, Table, LONGEST_TABLE, SCRATCH_BYTES};
+use order_tables::{build, Query as Proved, Table, LONGEST_TABLE, SCRATCH_BYTES};
 
 use crate::failure::Failure;
+use crate::items::Items;
 use crate::query::Query;
-use crate::refusals::{of_query, of_query_sizes, refused};
+use crate::refusals::{of_query, refused};
+use crate::sizes::most_states;
 use crate::states::States;
-use crate::text::{self, Text};
+use crate::text::{self, looks_like_text, Text};
 use crate::words::joined;
 
 /// A query that passes the checks 1 to 6.
 #[derive(Clone, Debug, PartialEq, Eq)]
 pub struct Loaded {
-    /// The file that it is from.
+    /// What the file is called that it is from.
     pub file: String,
     /// The query, with names.
     pub query: Query,
@@ -29,49 +31,50 @@ impl Loaded {
         }
     }
 
-    /// The query that a text says.
+    /// The query that a text says. The proved reader must find in its bytes what the text
+    /// says.
     fn of_text(file: String, content: &[u8]) -> Result<Self, Failure> {
         let text = text::read(content);
         let text = text.map_err(|error| Failure::Refused(error.shown(&file, content)))?;
         let Text { query, lines } = text;
         let bytes = query.write();
-        if let Err(refusal) = Proved::new(&bytes) {
-            let what = match refusal {
-                Refusal::Size => of_query_sizes(&query.sizes()),
-                _ => of_query(refusal, &bytes, |item| {
-                    format!("{} in line {}", query.item_text(item), lines[item])
-                }),
-            };
-            return Err(refused(&file, refusal, &what));
-        }
+        let read = Proved::new(&bytes).map_err(|refusal| {
+            let called = |_, item| format!("{} in line {}", query.item_text(item), lines[item]);
+            refused(&file, refusal, &of_query(refusal, &bytes, called))
+        })?;
+        let read = Query {
+            columns: query.columns.clone(),
+            sets: query.sets.clone(),
+            ..Query::of(read)
+        };
+        assert_eq!(read, query, "the bytes say what the text says");
         Ok(Self { file, query, bytes })
     }
 
     /// The query that some bytes are.
     fn of_bytes(file: String, bytes: Vec<u8>) -> Result<Self, Failure> {
-        match Proved::new(&bytes) {
-            Ok(read) => {
-                let query = Query::of(read);
-                Ok(Self { file, query, bytes })
-            }
-            Err(refusal) => {
-                let what = of_query(refusal, &bytes, |item| format!("item {item}"));
-                let note = meant_as_text(&bytes).unwrap_or_default();
-                Err(refused(&file, refusal, &(what + &note)))
-            }
-        }
+        let read = Proved::new(&bytes).map_err(|refusal| {
+            let what = match looks_like_text(&bytes) {
+                true => read_as_bytes(bytes[0]),
+                false => of_query(refusal, &bytes, Items::numbered),
+            };
+            refused(&file, refusal, &what)
+        })?;
+        let query = Query::of(read);
+        Ok(Self { file, query, bytes })
     }
 
     /// The bytes of the query's table.
     pub fn table(&self) -> Result<Vec<u8>, Failure> {
         let mut output = vec![0; LONGEST_TABLE];
         let built = build(&self.bytes, &mut [0; SCRATCH_BYTES], &mut output);
+        // With room enough, a query that passes the checks 1 to 6 is refused with 8 alone.
         let length = built.map_err(|refusal| {
-            let what = of_query(refusal, &self.bytes, |item| self.query.item_text(item));
             let produced = joined(&self.query.order_texts(&self.query.produced), "and");
             let sets = joined(&self.query.sets, "and");
-            let of = format!("{what}, for rows in {produced} and the sets {sets}");
-            refused(&self.file, refusal, &of)
+            let of = format!("for rows in {produced} and the sets {sets}");
+            let what = format!("the smallest table has more than {} states", most_states());
+            refused(&self.file, refusal, &format!("{what}, {of}"))
         })?;
         output.truncate(length);
         Ok(output)
@@ -86,12 +89,7 @@ impl Loaded {
     }
 }
 
-/// What is said of bytes that may have been meant as text: their first one is a blank, or
-/// no character of ASCII.
-fn meant_as_text(bytes: &[u8]) -> Option<String> {
-    let first = bytes.first()?;
-    let meant = matches!(first, b'\t' | b'\n' | b'\r' | 128..);
-    meant.then(|| {
-        format!("; read as bytes, since the first one is {first} and a text's is 32 to 126")
-    })
+/// Why what looks like text is none.
+fn read_as_bytes(first: u8) -> String {
+    format!("it looks like text and is read as bytes, since the first one is {first} and a text's is 32 to 126")
 }

@@ -21,9 +21,14 @@ fn main() -> ExitCode {
     }
 }
 
-/// Writes bytes to standard output.
+/// Writes bytes to standard output. Who closes it has read enough.
 fn print(bytes: &[u8]) -> Result<(), Failure> {
     let mut output = io::stdout().lock();
     let written = output.write_all(bytes).and_then(|()| output.flush());
-    written.map_err(|error| Failure::Unusable(format!("standard output: {error}")))
+    match written {
+        Err(error) if error.kind() != io::ErrorKind::BrokenPipe => {
+            Err(Failure::Unusable(format!("standard output: {error}")))
+        }
+        _ => Ok(()),
+    }
 }

@@ -1,31 +1,40 @@
-//! A known name that a misspelt one may mean.
+//! Known names that a misspelt one may mean.
 
 use crate::words::{joined, quoted};
 
-/// What would do in the stead of a name that is not known: the near one; or else any that
+/// The most names that are told where none is near.
+const MOST_TOLD: usize = 12;
+
+/// What would do in the stead of a name that is not known: the near ones; or else any that
 /// is known, or what is said here.
 pub fn one_of(name: &str, known: &[impl AsRef<str>], or: Option<&str>) -> String {
-    match near(name, known.iter().map(AsRef::as_ref)) {
-        Some(near) => quoted(near),
-        None => {
-            let known = known.iter().map(quoted);
-            let any: Vec<String> = known.chain(or.map(str::to_owned)).collect();
-            joined(&any, "or")
-        }
+    let mut told: Vec<String> = nearest(name, known).iter().map(quoted).collect();
+    if told.is_empty() {
+        told.extend(known.iter().take(MOST_TOLD).map(quoted));
+        told.extend((known.len() > MOST_TOLD).then(|| "..".to_owned()));
+        told.extend(or.map(str::to_owned));
     }
+    joined(&told, "or")
 }
 
-/// The known name that is nearest to another one, if one is near: at most a third of
+/// The known names that are nearest to another one, if any is near: at most a third of
 /// the letters are wrong, missing, too many or exchanged with the next, upper and lower
-/// case counted alike. Of equally near ones the first is given.
-fn near<'a>(name: &str, known: impl IntoIterator<Item = &'a str>) -> Option<&'a str> {
-    let with_distance = known
+/// case counted alike.
+fn nearest<'k>(name: &str, known: &'k [impl AsRef<str>]) -> Vec<&'k str> {
+    let known = known.iter().map(AsRef::as_ref);
+    let near = known.filter_map(|known| {
+        let most = name.len().max(known.len()) / 3;
+        // At least so many letters are missing or too many.
+        let least = name.len().abs_diff(known.len());
+        let distance = (least <= most).then(|| distance(name, known))?;
+        (distance <= most).then_some((distance, known))
+    });
+    let near: Vec<(usize, &str)> = near.collect();
+    let least = near.iter().map(|(distance, _)| *distance).min();
+    let nearest = near
         .into_iter()
-        .map(|known| (distance(name, known), known));
-    let near =
-        with_distance.filter(|(distance, known)| 3 * distance <= name.len().max(known.len()));
-    near.min_by_key(|(distance, _)| *distance)
-        .map(|(_, known)| known)
+        .filter(|(distance, _)| Some(*distance) == least);
+    nearest.map(|(_, known)| known).collect()
 }
 
 /// How many changes of one letter, or exchanges of two neighbours, lead from one name
@@ -73,19 +82,36 @@ mod tests {
     }
 
     #[test]
-    fn gives_the_nearest_name_that_is_near() {
-        let known = ["time", "axis", "times", "a"];
+    fn gives_the_nearest_names_that_are_near() {
+        let known = ["time", "axis", "times", "a", "l_key", "o_key"];
+        let long = "time".repeat(30_000);
         for (name, expected) in [
-            ("tmie", Some("time")),
-            ("timess", Some("times")),
-            ("axs", Some("axis")),
-            ("A", Some("a")),
-            ("b", None),
-            ("code", None),
-            ("", None),
+            ("tmie", &["time"][..]),
+            ("timess", &["times"]),
+            ("axs", &["axis"]),
+            ("A", &["a"]),
+            ("key", &[]),
+            ("_key", &["l_key", "o_key"]),
+            ("b", &[]),
+            ("code", &[]),
+            ("", &[]),
+            (&long, &[]),
         ] {
-            assert_eq!(near(name, known), expected, "{name}");
+            assert_eq!(nearest(name, &known), expected, "{name}");
         }
-        assert_eq!(near("time", []), None);
+        assert!(nearest("time", &[] as &[&str]).is_empty());
+    }
+
+    #[test]
+    fn tells_what_would_do() {
+        let known = ["time", "axis", "rime"];
+        assert_eq!(one_of("axs", &known, Some("x")), "`axis`");
+        assert_eq!(one_of("dime", &known, None), "`time` or `rime`");
+        assert_eq!(one_of("b", &known, None), "`time`, `axis` or `rime`");
+        assert_eq!(one_of("b", &known[..1], Some("x")), "`time` or x");
+        assert_eq!(one_of("b", &known[..0], Some("x")), "x");
+        let many = ["name"; 13];
+        let told = one_of("b", &many, Some("x"));
+        assert_eq!(told, "`name`, ".repeat(12) + ".. or x");
     }
 }

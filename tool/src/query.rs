@@ -6,8 +6,8 @@ use order_tables as proved;
 /// names.
 pub type Order = Vec<usize>;
 
-/// The bytes of an item behind its head.
-const ITEM_BYTES: usize = 4;
+/// How many columns an item has room for, a byte each, behind its head.
+pub const ITEM_COLUMNS: usize = 4;
 /// What unused bytes of an item hold.
 const UNUSED: u8 = 255;
 /// The kind of an equal; smaller kinds are fixes with so many left columns.
@@ -78,12 +78,9 @@ impl Query {
         }
     }
 
-    /// The query's bytes. A size that no byte has is written as 255, which is outside its
-    /// limits too, so that no number behind it is read.
+    /// The query's bytes, where no size is above 255. With more columns or sets than there
+    /// may be, numbers of these are cut to a byte; then the sizes are refused before them.
     pub fn write(&self) -> Vec<u8> {
-        let sizes = self
-            .sizes()
-            .map(|size| u8::try_from(size).unwrap_or(u8::MAX));
         let orders = self.interesting().map(|order| (order.len(), order.clone()));
         let dependencies = self.dependencies.iter().map(|Dependency { set, rule }| {
             let (kind, columns) = match rule {
@@ -94,11 +91,11 @@ impl Query {
         });
         let (heads, columns): (Vec<usize>, Vec<Vec<usize>>) = orders.chain(dependencies).unzip();
 
-        let mut bytes = sizes.to_vec();
-        bytes.extend(heads.iter().map(|&head| head as u8));
+        let numbers = self.sizes().into_iter().chain(heads);
+        let mut bytes: Vec<u8> = numbers.map(|number| number as u8).collect();
         for columns in columns {
             let mut columns: Vec<u8> = columns.iter().map(|&column| column as u8).collect();
-            columns.resize(ITEM_BYTES, UNUSED);
+            columns.resize(ITEM_COLUMNS, UNUSED);
             bytes.extend(columns);
         }
         bytes
@@ -145,9 +142,9 @@ impl Query {
     /// What a dependency says, as the text has it.
     pub fn rule_text(&self, rule: &Rule) -> String {
         match rule {
+            Rule::Fix { left, right } if left.is_empty() => format!("-> {}", self.columns[*right]),
             Rule::Fix { left, right } => {
-                let fix = format!("{} -> {}", self.names(left), self.columns[*right]);
-                fix.trim_start().to_owned()
+                format!("{} -> {}", self.names(left), self.columns[*right])
             }
             Rule::Equal(one, other) => format!("{} = {}", self.columns[*one], self.columns[*other]),
         }

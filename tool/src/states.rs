@@ -6,7 +6,6 @@ use order_tables::{HeldWord, OrderHandle, SetHandle, StateNumber, Table};
 
 use crate::query::Query;
 use crate::runs::Runs;
-use crate::words::joined;
 
 /// Why lookups are granted.
 const GRANTED: &str = "a lookup is granted in a table that has the form and the query's sizes";
@@ -77,11 +76,15 @@ impl<'t> States<'t> {
         names.cloned().collect()
     }
 
-    /// A run in words: that it is at the start, or the names of its sets.
-    pub fn run_text(self, run: &[SetHandle]) -> String {
+    /// A run in words: that it is at the start, or what it takes, put together so.
+    pub fn run_text(self, run: &[SetHandle], together: impl Fn(&[String]) -> String) -> String {
+        let taken = run.chunk_by(SetHandle::eq).map(|same| match same.len() {
+            1 => self.set_names(same).concat(),
+            times => format!("{} {times} times", self.set_names(&same[..1]).concat()),
+        });
         match run {
             [] => "at the start".to_owned(),
-            _ => format!("after {}", joined(&self.set_names(run), "and")),
+            _ => format!("after {}", together(&taken.collect::<Vec<String>>())),
         }
     }
 }

@@ -5,10 +5,11 @@ use order_tables::{HeldWord, OrderHandle, Refusal, SetHandle, StateNumber, Table
 use crate::failure::Failure;
 use crate::load::Loaded;
 use crate::query::Query;
-use crate::refusals::{of_table, refused, QUERY_SIZES};
+use crate::refusals::{of_table, refused};
 use crate::runs::Runs;
+use crate::sizes::sizes_text;
 use crate::states::States;
-use crate::words::{counted, joined};
+use crate::words::counted;
 
 /// Puts a supplier's table, from a file, on trial for a query. A refusal of the query
 /// speaks of the query's file, any other of the table's.
@@ -84,11 +85,7 @@ fn mismatch(query: &Loaded, table: Table) -> String {
     let [produced, interesting, sets] = sizes(table).map(|handles| handles.len());
     let supplied = [produced, interesting - produced, sets];
     let [_, produced, tested, sets, _] = query.query.sizes();
-    let [supplied, asked] = [supplied, [produced, tested, sets]].map(|sizes| {
-        let counts = sizes.into_iter().zip(&QUERY_SIZES[1..4]);
-        let counts: Vec<String> = counts.map(|(size, &of)| counted(size, of)).collect();
-        joined(&counts, "and")
-    });
+    let [supplied, asked] = [supplied, [produced, tested, sets]].map(sizes_text);
     format!("it has {supplied}, and {} has {asked}", query.file)
 }
 
@@ -111,7 +108,8 @@ fn wrong_answer(own: States, supplied: States) -> String {
     let shortest = wrong.min_by_key(|(run, ..)| (run.len(), run.clone()));
     let (run, order, words) =
         shortest.expect("a table that is refused with 13 gives a wrong answer");
-    let (run, wrong) = (own.run_text(&run), wrong_orders(own.query, words));
+    let run = own.run_text(&run, |sets| sets.join(", then "));
+    let wrong = wrong_orders(own.query, words);
     format!("entered by {order}, {run}, it says {wrong}")
 }
 

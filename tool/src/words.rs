@@ -18,5 +18,19 @@ pub fn counted(count: usize, [one, many]: [&str; 2]) -> String {
 
 /// A word as it is quoted.
 pub fn quoted(word: impl AsRef<str>) -> String {
-    format!("`{}`", word.as_ref())
+    format!("`{}`", printable(word.as_ref()))
+}
+
+/// Whether a character shows as itself and moves nothing on a terminal.
+pub fn is_shown(character: char) -> bool {
+    matches!(character, ' '..='~') || !character.is_ascii() && character.is_alphanumeric()
+}
+
+/// A text with another sign in the stead of each character that does not show as itself.
+pub fn printable(text: &str) -> String {
+    let shown = |character| match is_shown(character) {
+        true => character,
+        false => char::REPLACEMENT_CHARACTER,
+    };
+    text.chars().map(shown).collect()
 }

@@ -2,7 +2,7 @@
 
 use std::ffi::OsStr;
 use std::fs::{self, OpenOptions};
-use std::io::Write;
+use std::io::{pipe, Write};
 use std::path::{Path, PathBuf};
 use std::process::{Command, Stdio};
 use std::time::{Duration, Instant};
@@ -175,62 +175,82 @@ fn a_refusal_of_a_query_speaks_of_its_file() {
         run(&["verify", &misspelt, &no_table]),
         Ended::failing(1, &words)
     );
-
-    for (query, what) in [
-        (
-            &b"columns a\nproduced (a) (a)"[..],
-            "6, twin: (a) in line 2 is an interesting order already",
-        ),
-        (
-            b"columns a\nproduced (a)\nset x: a = a",
-            "5, repeat: a = a in line 3 has a column twice",
-        ),
-        (
-            b"columns a\n",
-            "2, size: 0 produced orders where 1 to 8 would do",
-        ),
-        (
-            &[13, 9, 0, 0, 0],
-            "2, size: 13 columns where 1 to 12 would do \
-            and 9 produced orders where 1 to 8 would do; \
-            read as bytes, since the first one is 13 and a text's is 32 to 126",
-        ),
-        (
-            &[2, 1, 0, 0, 0, 1, 0, 255, 255],
-            "1, length: 9 bytes where 10 would do by the sizes",
-        ),
-        (
-            &[2, 1, 0, 0, 0, 5, 0, 1, 0, 1],
-            "3, item: item 0 has a length or a kind above 4, a set that is none, \
-            or an unused byte other than 255",
-        ),
-        (
-            &[2, 1, 1, 0, 0, 1, 1, 0, 255, 255, 255, 2, 255, 255, 255],
-            "4, column: item 1 has a column that is none",
-        ),
-        (
-            &[1, 1, 1, 0, 0, 1, 1, 0, 255, 255, 255, 0, 255, 255, 255],
-            "6, twin: item 1 is an interesting order already",
-        ),
-        (
-            &file(table),
-            "1, length: 22 bytes where 25 would do by the sizes",
-        ),
-    ] {
-        assert_eq!(
-            run_with(&["encode", "-"], query),
-            refused("standard input", what)
-        );
-    }
 }
 
+/// Queries that are refused, with what is said of them.
+const REFUSED_QUERIES: &[(&[u8], &str)] = &[
+    (
+        b"columns a b\nproduced (a) (b) (a)",
+        "6, twin: (a) in line 2 is there twice",
+    ),
+    (
+        b"columns a b\nproduced (a)\ntested (b) (a)",
+        "6, twin: (a) in line 3 is the same as (a) in line 2",
+    ),
+    (
+        b"columns a\nproduced (a)\nset x: a = a",
+        "5, repeat: a = a in line 3 has a column twice",
+    ),
+    (
+        b"columns a\n",
+        "2, size: 0 produced orders where 1 to 8 would do",
+    ),
+    (
+        b" #",
+        "2, size: 0 columns where 1 to 12 would do and 0 produced orders where 1 to 8 would do",
+    ),
+    (
+        b"columns a b c d e f g h i j k l m\nproduced ()",
+        "2, size: 13 columns where 1 to 12 would do",
+    ),
+    (
+        &[13, 1, 0, 0, 17],
+        "2, size: 13 columns where 1 to 12 would do and 17 dependencies where 0 to 16 would do",
+    ),
+    (&[], "1, length: it is empty, and 5 sizes come first"),
+    (&[1, 2, 3, 4], "1, length: 4 bytes where 5 sizes come first"),
+    (
+        &[2, 1, 0, 0, 0, 1, 0, 255, 255],
+        "1, length: 9 bytes where 10 would do by the sizes",
+    ),
+    (
+        &[2, 1, 0, 0, 0, 5, 0, 1, 0, 1],
+        "3, item: produced order 0 (head 5, bytes 0 1 0 1) has a length above 4 or an unused byte other than 255",
+    ),
+    (
+        &[2, 1, 0, 1, 1, 0, 81, 255, 255, 255, 255, 0, 1, 255, 255],
+        "3, item: dependency 0 (head 81, bytes 0 1 255 255) has a kind above 4, a set not below 1 or an unused byte other than 255",
+    ),
+    (
+        &[2, 1, 1, 0, 0, 1, 1, 0, 255, 255, 255, 2, 255, 255, 255],
+        "4, column: tested order 1 (head 1, bytes 2 255 255 255) has a column not below 2",
+    ),
+    (
+        &[2, 1, 1, 0, 0, 1, 2, 0, 255, 255, 255, 1, 1, 255, 255],
+        "5, repeat: tested order 1 (head 2, bytes 1 1 255 255) has a column twice",
+    ),
+    (
+        &[1, 1, 1, 0, 0, 1, 1, 0, 255, 255, 255, 0, 255, 255, 255],
+        "6, twin: tested order 1 (head 1, bytes 0 255 255 255) is the same as produced order 0 (head 1, bytes 0 255 255 255)",
+    ),
+    (
+        b"\ncolumns a",
+        "2, size: it looks like text and is read as bytes, since the first one is 10 and a text's is 32 to 126",
+    ),
+    (
+        b"\xef\xbb\xbfcolumns a",
+        "2, size: it looks like text and is read as bytes, since the first one is 239 and a text's is 32 to 126",
+    ),
+];
+
 #[test]
-fn many_columns_are_counted() {
-    let names: String = (0..300).map(|name| format!(" c{name}")).collect();
-    let text = format!("columns{names}\nproduced (c299)\nsets{names}\nset c299: -> c280");
-    let what = "2, size: 300 columns where 1 to 12 would do and 300 sets where 0 to 8 would do";
-    let ended = run_with(&["explain", "-"], text.as_bytes());
-    assert_eq!(ended, refused("standard input", what));
+fn refused_queries() {
+    for &(query, what) in REFUSED_QUERIES {
+        for command in ["encode", "decode", "explain", "draw"] {
+            let ended = run_with(&[command, "-"], query);
+            assert_eq!(ended, refused("standard input", what));
+        }
+    }
 }
 
 #[test]
@@ -250,49 +270,71 @@ fn a_refusal_of_a_table_speaks_of_its_file() {
     for (query, table, what) in [
         (
             TEXT,
-            table[..21].to_vec(),
+            &table[..21],
             "1, length: 21 bytes where 22 would do by the sizes",
         ),
         (
             TEXT,
-            table[..3].to_vec(),
+            &table[..3],
             "1, length: 3 bytes where 4 sizes come first",
+        ),
+        (TEXT, &[], "1, length: it is empty, and 4 sizes come first"),
+        (
+            TEXT,
+            b"columns a\n",
+            "2, size: it looks like text, and a table is bytes",
         ),
         (
             TEXT,
-            changed(0, 0),
+            &changed(0, 0),
             "2, size: 0 states where 1 to 128 would do",
         ),
         (
             TEXT,
-            changed(5, 4),
+            &changed(5, 4),
             "11, row: (axis, time) starts in no state",
         ),
         (
             TEXT,
-            changed(9, 128),
+            &changed(9, 128),
             "11, row: in state 1 join leads to no state",
         ),
         (
             TEXT,
-            changed(16, 32),
+            &changed(16, 32),
             "11, row: state 1 has a held bit past the 4 interesting orders",
         ),
         (
             &one_set,
-            changed(5, 4),
+            &changed(5, 4),
             "11, row: produced order 1 starts in no state",
         ),
         (
             &one_set,
-            changed(9, 128),
+            &changed(9, 128),
             "11, row: in state 1 set 1 leads to no state",
         ),
-        (&one_set, table.clone(), &other_sizes),
+        (&one_set, &table, &other_sizes),
     ] {
-        let table = written(&folder, "table", &table);
+        let table = written(&folder, "table", table);
         assert_eq!(run(&["verify", query, &table]), refused(&table, what));
     }
+}
+
+#[test]
+fn a_wrong_run_is_told_in_its_sequence() {
+    let folder = folder("runs");
+    let query = b"columns a\nproduced (a)\ntested ()\nsets x y";
+    let query = written(&folder, "query.txt", query);
+    // States 0 to 2 hold both orders and state 3 the first one. The sets lead from 0 to 1
+    // and 2; from 2 set x leads to 3, and nothing else does.
+    let table = [
+        4, 1, 1, 2, 0, 1, 2, 1, 1, 3, 2, 3, 3, 3, 0, 3, 0, 3, 0, 1, 0,
+    ];
+    let table = written(&folder, "table", &table);
+    let what =
+        "13, answer: entered by (a), after y, then x, it says that () is not held, which it is";
+    assert_eq!(run(&["verify", &query, &table]), refused(&table, what));
 }
 
 #[test]
@@ -313,31 +355,6 @@ fn a_query_with_too_many_states_has_its_sets_named() {
     assert_eq!(rows.status, 0, "{rows:?}");
 }
 
-#[test]
-fn an_empty_query_is_bytes() {
-    for command in ["encode", "decode", "explain", "draw"] {
-        let what = "1, length: 0 bytes where 5 sizes come first";
-        assert_eq!(run(&[command, "-"]), refused("standard input", what));
-    }
-}
-
-#[test]
-fn bytes_that_begin_as_no_text_does() {
-    for (text, first) in [
-        ("\ncolumns a", 10),
-        ("\tcolumns a", 9),
-        ("\u{feff}columns a", 239),
-    ] {
-        let ended = run_with(&["encode", "-"], text.as_bytes());
-        let note =
-            format!("; read as bytes, since the first one is {first} and a text's is 32 to 126\n");
-        assert!(
-            ended.status == 1 && ended.errors.ends_with(&note),
-            "{ended:?}"
-        );
-    }
-}
-
 /// What the two rows of the first query show.
 const TWO_ROWS: &str = "        time  axis  code
 first      0     1     0
@@ -348,54 +365,61 @@ they are alike in time, and in axis the first has 1 and the second 0.
 So a sort by (time, axis) is needed.
 ";
 
+/// What is asked of the first query and is not in it, with what is said of it.
+const NOT_IN_THE_QUERY: &[([&str; 3], &str)] = &[
+    (
+        ["(tme)", "none", "(time)"],
+        "`tme` is no column; `time` would do",
+    ),
+    (
+        ["(code)", "none", "(time)"],
+        "(code) is no produced order; (time) or (axis, time) would do",
+    ),
+    (
+        ["(time)", "join,fliter", "(time)"],
+        "`fliter` is no set; `filter` would do",
+    ),
+    (
+        ["(time)", "x", "(time)"],
+        "`x` is no set; `filter`, `join` or `none` would do",
+    ),
+    (
+        ["(time)", "none", "(time, x)"],
+        "`x` is no column; `time`, `axis` or `code` would do",
+    ),
+    (
+        ["(time)", "none", "(time, code, axis, time, time)"],
+        "(time, code, axis, time, time) is no interesting order; \
+        (time), (axis, time), (time, axis) or (code) would do",
+    ),
+];
+
+/// Asks for two rows of the first query.
+fn ask(produced: &str, sets: &str, order: &str) -> Ended {
+    run(&["counterexample", TEXT, produced, sets, order])
+}
+
 #[test]
 fn shows_two_rows_or_none() {
-    let ask = |produced, sets, order| run(&["counterexample", TEXT, produced, sets, order]);
-    assert_eq!(
-        ask("(time)", "none", "(time, axis)"),
-        Ended::printing(TWO_ROWS)
-    );
-    assert_eq!(
-        ask("( time )", " none", "(time,axis)"),
-        Ended::printing(TWO_ROWS)
-    );
-    let none = "none: all rows that stand in (time) and obey join and filter \
-        stand in (time, axis), and no sort is needed.\n";
-    assert_eq!(
-        ask("(time)", "join, filter", "(time, axis)"),
-        Ended::printing(none)
-    );
-    let none = "none: all rows that stand in (time) stand in (time), and no sort is needed.\n";
-    assert_eq!(ask("(time)", "none", "(time)"), Ended::printing(none));
-
-    for (asked, what) in [
-        (
-            ["(tme)", "none", "(time)"],
-            "`tme` is no column; `time` would do",
-        ),
-        (
-            ["(code)", "none", "(time)"],
-            "(code) is no produced order; (time) or (axis, time) would do",
-        ),
-        (
-            ["(time)", "fliter", "(time)"],
-            "`fliter` is no set; `filter` would do",
-        ),
-        (
-            ["(time)", "x", "(time)"],
-            "`x` is no set; `filter`, `join` or `none` would do",
-        ),
-        (
-            ["(time)", "none", "(time, x)"],
-            "`x` is no column; `time`, `axis` or `code` would do",
-        ),
-        (
-            ["(time)", "none", "(code, axis)"],
-            "(code, axis) is no interesting order; \
-            (time), (axis, time), (time, axis) or (code) would do",
-        ),
+    for (produced, sets, order) in [
+        ("(time)", "none", "(time, axis)"),
+        ("( time )", " none", "(time,axis)"),
     ] {
-        let [produced, sets, order] = asked;
+        assert_eq!(ask(produced, sets, order), Ended::printing(TWO_ROWS));
+    }
+    for (sets, order, none) in [
+        (
+            "join, filter,join",
+            "(time, axis)",
+            "(time) and obey join and filter stand in (time, axis)",
+        ),
+        ("filter", "(time)", "(time) and obey filter stand in (time)"),
+        ("none", "(time)", "(time) stand in (time)"),
+    ] {
+        let none = format!("none: all rows that stand in {none}, and no sort is needed.\n");
+        assert_eq!(ask("(time)", sets, order), Ended::printing(none));
+    }
+    for &([produced, sets, order], what) in NOT_IN_THE_QUERY {
         let what = format!("10, handle: {what}");
         assert_eq!(ask(produced, sets, order), refused(TEXT, &what));
     }
@@ -419,57 +443,37 @@ fn helps() {
     }
 }
 
+/// Arguments that are misused, with what is said of them.
+const MISUSED: &[(&[&str], &str)] = &[
+    (&[], "a command is missing"),
+    (&["list", TEXT], "`list` is no command; `encode`, `decode`, `explain`, `draw`, `verify` or `counterexample` would do"),
+    (&["explian", TEXT], "`explian` is no command; `explain` would do"),
+    (&["ver\u{1b}ify"], "`ver\u{fffd}ify` is no command; `verify` would do"),
+    (&["explain"], "0 arguments were given"),
+    (&["encode", TEXT, TEXT], "2 arguments were given"),
+    (&["verify", TEXT], "1 argument was given"),
+    (&["verify", TEXT, BYTES, BYTES], "3 arguments were given"),
+    (&["draw", "--svg"], "`--svg` is no option; `--help` would do"),
+    (&["draw", "-x", "--", TEXT], "`-x` is no option; `--help` would do"),
+    (&["verify", "-", "-"], "`-` can stand for one file alone"),
+    (&["counterexample", TEXT, "(time)", "none"], "3 arguments were given"),
+    (
+        &["counterexample", BYTES, "0", "0", "2"],
+        "in `0`, character 1: found `0`, which begins with no letter; an order in parentheses would do",
+    ),
+    (
+        &["counterexample", TEXT, "(time)", "", "(time)"],
+        "in ``, character 1: found the end; `none` or a set would do",
+    ),
+    (
+        &["counterexample", "missing", "(time)", "none", "(time"],
+        "in `(time`, character 6: found the end; `,` or `)` would do",
+    ),
+];
+
 #[test]
 fn misuse() {
-    let order = "counterexample";
-    for (arguments, what) in [
-        (&[][..], "a command is missing"),
-        (
-            &["list", TEXT],
-            "`list` is no command; `encode`, `decode`, `explain`, `draw`, \
-            `verify` or `counterexample` would do",
-        ),
-        (
-            &["explian", TEXT],
-            "`explian` is no command; `explain` would do",
-        ),
-        (
-            &["-"],
-            "`-` is no command; `encode`, `decode`, `explain`, `draw`, \
-            `verify` or `counterexample` would do",
-        ),
-        (&["explain"], "0 arguments were given"),
-        (&["encode", TEXT, TEXT], "2 arguments were given"),
-        (&["verify", TEXT], "1 argument was given"),
-        (&["verify", TEXT, BYTES, BYTES], "3 arguments were given"),
-        (
-            &["draw", "--svg"],
-            "`--svg` is no option; `--help` would do",
-        ),
-        (
-            &["draw", "-x", "--", TEXT],
-            "`-x` is no option; `--help` would do",
-        ),
-        (&["verify", "-", "-"], "`-` can stand for one file alone"),
-        (&[order, TEXT, "(time)", "none"], "3 arguments were given"),
-        (
-            &[order, TEXT, "time", "none", "(time)"],
-            "in `time`, column 1: found `time`; an order in parentheses would do",
-        ),
-        (
-            &[order, TEXT, "(time)", "", "(time)"],
-            "in ``, column 1: found the end of the line; `none` or a set would do",
-        ),
-        (
-            &[order, TEXT, "(time)", "none", "(time"],
-            "in `(time`, column 6: found the end of the line; `,` or `)` would do",
-        ),
-        (
-            &[order, "missing", "(time)", "0", "(time)"],
-            "in `0`, column 1: found `0`; \
-            a name that begins with a letter would do",
-        ),
-    ] {
+    for &(arguments, what) in MISUSED {
         let Ended {
             status,
             output,
@@ -482,53 +486,53 @@ fn misuse() {
         );
         let mut lines = errors.lines();
         assert_eq!(lines.next(), Some(&format!("order_tables: {what}")[..]));
-        assert!(
-            lines
-                .next()
-                .is_some_and(|line| line.starts_with("usage: order_tables ")),
-            "{errors}"
-        );
+        let usage = lines.next().unwrap_or_default();
+        assert!(usage.starts_with("usage: order_tables "), "{errors}");
     }
 }
 
+/// What stands for a file that cannot be read.
+const UNREADABLE: &str = "UNREADABLE";
+/// Ways to run the program with such a file.
+const WITH_UNREADABLE: [&[&str]; 5] = [
+    &["explain", UNREADABLE],
+    &["verify", TEXT, UNREADABLE],
+    &["verify", UNREADABLE, TEXT],
+    // A query that is refused does not hide that the table can't be read.
+    &["verify", "examples/first.table", UNREADABLE],
+    &["counterexample", UNREADABLE, "(time)", "none", "(time)"],
+];
+
 #[test]
-fn files_that_cannot_be_read_or_written() {
+fn files_that_cannot_be_read() {
     let folder = folder("unreadable");
     let missing = folder.join("missing");
-    for unreadable in [&missing, &folder, &PathBuf::new()] {
-        let unreadable = unreadable.as_os_str();
-        let [explain, verify, text] = ["explain", "verify", TEXT].map(OsStr::new);
-        let counterexample = ["(time)", "none", "(time)"].map(OsStr::new);
-        let counterexample = [
-            &[OsStr::new("counterexample"), unreadable],
-            &counterexample[..],
-        ]
-        .concat();
-        for arguments in [
-            vec![explain, unreadable],
-            vec![verify, text, unreadable],
-            vec![verify, unreadable, text],
-            // A query that is refused does not hide that the table can't be read.
-            vec![verify, OsStr::new("examples/first.table"), unreadable],
-            counterexample,
-        ] {
+    let paths = [(&missing, missing.to_str()), (&folder, folder.to_str())];
+    let nameless = PathBuf::new();
+    for (path, name) in paths.into_iter().chain([(&nameless, Some("``"))]) {
+        let name = name.expect("the folder's name is text");
+        for arguments in WITH_UNREADABLE {
+            let arguments = arguments.iter().map(|&argument| match argument {
+                UNREADABLE => path.as_os_str(),
+                argument => OsStr::new(argument),
+            });
             let Ended {
                 status,
                 output,
                 errors,
-            } = run(&arguments);
-            assert_eq!(
-                (status, &output[..]),
-                (2, &b""[..]),
-                "{arguments:?}: {errors}"
-            );
-            assert_eq!(errors.lines().count(), 1, "{arguments:?}: {errors}");
+            } = run(&arguments.collect::<Vec<&OsStr>>());
+            assert_eq!((status, &output[..]), (2, &b""[..]), "{errors}");
+            let one_line = errors.lines().count() == 1;
             assert!(
-                errors.starts_with(&*unreadable.to_string_lossy()),
+                one_line && errors.starts_with(&format!("{name}: ")),
                 "{errors}"
             );
         }
     }
+}
+
+#[test]
+fn output_that_cannot_be_written() {
     let full = OpenOptions::new().write(true).open("/dev/full");
     let full = full.expect("the device that is always full is there");
     let ended = program().args(["explain", TEXT]).stdout(full).output();
@@ -536,22 +540,36 @@ fn files_that_cannot_be_read_or_written() {
     assert_eq!(ended.status.code(), Some(2));
     let errors = String::from_utf8_lossy(&ended.stderr);
     assert!(errors.starts_with("standard output: "), "{errors}");
+
+    // Who closes the output has read enough.
+    let (reader, writer) = pipe().expect("a pipe can be made");
+    drop(reader);
+    let ended = program().args(["explain", TEXT]).stdout(writer).output();
+    let ended = ended.expect("the program runs");
+    assert_eq!(ended.status.code(), Some(0));
+    assert!(ended.stderr.is_empty(), "{ended:?}");
 }
 
 #[test]
-fn long_input() {
-    let most = 1 << 20;
-    let mut text = b"columns a\nproduced (a)\n#".to_vec();
-    text.resize(most, b'x');
-    assert_eq!(run_with(&["encode", "-"], &text).status, 0);
-    text.push(b'x');
-    let words = "standard input: a text has at most 1048576 bytes";
-    assert_eq!(run_with(&["encode", "-"], &text), Ended::failing(2, words));
-    // Bytes are refused by what comes first, however many follow.
-    let endless = run(&["explain", "/dev/zero"]);
-    assert_eq!(endless.status, 1, "{endless:?}");
-    let endless = run(&["verify", TEXT, "/dev/zero"]);
-    assert_eq!(endless.status, 1, "{endless:?}");
+fn endless_input() {
+    for (file, words) in [
+        (TEXT, "/dev/zero: refused 2, size: 0 states where 1 to 128 would do and 0 produced orders where 1 to 8 would do"),
+        ("/dev/zero", "/dev/zero: refused 2, size: 0 columns where 1 to 12 would do and 0 produced orders where 1 to 8 would do"),
+    ] {
+        assert_eq!(run(&["verify", file, "/dev/zero"]), Ended::failing(1, words));
+    }
+    let mut table = file("examples/first.table");
+    table.resize(2 << 20, 0);
+    let what = "1, length: more than 1048576 bytes where 22 would do by the sizes";
+    let ended = run_with(&["verify", TEXT, "-"], &table);
+    assert_eq!(ended, refused("standard input", what));
+    let text = "#".repeat(2 << 20);
+    let ended = run_with(&["encode", "-"], text.as_bytes());
+    let words = "standard input:1:1048577: found more than 1048576 bytes; fewer would do\n";
+    assert!(
+        ended.status == 1 && ended.errors.starts_with(words),
+        "{ended:?}"
+    );
 }
 
 /// All ways to run the program with a query, in a folder, and with a table for it that is

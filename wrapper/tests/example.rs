@@ -1,7 +1,7 @@
 //! The types on the listing's example, and on trials that are refused or have a
 //! supplier's table.
 
-use order_tables::{build, counterexample, list, verify, Query, Rule};
+use order_tables::{build, counterexample, list, verify, Columns, Query, Rule};
 use order_tables::{HeldWord, OrderHandle, Refusal, SetChoice, SetHandle, StateNumber, Table};
 use order_tables::{LISTING_BYTES, LONGEST_TABLE, SCRATCH_BYTES, TWO_ROWS_BYTES};
 use reference::counterexample::check;
@@ -43,6 +43,24 @@ fn reads_queries() {
         assert_eq!(read(&query).map_err(Refusal::number), expected, "{query:?}");
     }
     assert!(outcomes.iter().all(|&count| count > 100), "{outcomes:?}");
+}
+
+#[test]
+fn columns_are_equal_where_those_that_are_there_are() {
+    // Produced (a), set 0 with a -> b and a -> c.
+    let query = [
+        3, 1, 0, 1, 2, 1, 16, 16, 0, 255, 255, 255, 0, 1, 255, 255, 0, 2, 255, 255,
+    ];
+    let query = Query::new(&query).expect("not refused");
+    let left = query
+        .dependencies()
+        .map(|dependency| match dependency.rule {
+            Rule::Fix { left, .. } => left,
+            Rule::Equal(..) => panic!("no equal is there"),
+        });
+    let left: Vec<Columns> = left.collect();
+    let produced: Vec<Columns> = query.produced().collect();
+    assert_eq!(left, [produced[0]; 2]);
 }
 
 #[test]

@@ -1,55 +1,76 @@
 //! A line of a text, token by token.
 
 use super::TextError;
-use crate::words::quoted;
+use crate::words::{is_shown, quoted};
 
 /// What begins a comment, which goes to the line's end.
 const COMMENT: u8 = b'#';
 /// The tokens that are no names.
 const SIGNS: [&str; 6] = ["(", ")", ",", ":", "->", "="];
-/// What is found behind the last token of a line.
-const END: &str = "the end of the line";
 /// The word that is no name, of a column or of a set.
-pub const RESERVED: &str = "desc";
+const RESERVED: &str = "desc";
+/// The most characters of a name.
+const MOST_CHARACTERS: usize = 64;
 
-/// A token of a line: a name or a sign, or nothing at the line's end.
+/// What a token is.
+#[derive(Clone, Copy, Debug, PartialEq, Eq)]
+enum Kind {
+    Name,
+    Sign,
+    /// Behind the last token. It is called so.
+    End(&'static str),
+    /// What would be a name if it did not begin with a digit or a dot.
+    NoName,
+    /// A character that is in no token.
+    Character(char),
+    /// A byte that is in no character, or is one that is not shown.
+    Byte(u8),
+}
+
+/// A token of a line, or what is there and is none.
 #[derive(Clone, Copy, Debug, PartialEq, Eq)]
 pub struct Token<'t> {
-    /// The token's text, empty at the line's end.
+    /// The text of a name, a sign or what would be a name, and otherwise empty.
     pub text: &'t str,
-    /// The line, from 1.
+    kind: Kind,
+    width: usize,
     line: usize,
-    /// The column of its first character, from 1.
     column: usize,
 }
 
 impl Token<'_> {
-    /// Whether this is a name.
-    pub fn is_name(self) -> bool {
-        self.text.bytes().next().is_some_and(begins_name)
+    /// Whether this is the end.
+    pub fn is_end(self) -> bool {
+        matches!(self.kind, Kind::End(_))
     }
 
-    /// That this token was found where something else would do.
+    /// That this was found where something else would do.
     pub fn instead_of(self, would_do: impl Into<String>) -> TextError {
-        let found = match self.text {
-            "" => END.to_owned(),
-            text => quoted(text),
+        let found = match self.kind {
+            Kind::Name if self.text == RESERVED => {
+                format!("{}, which is reserved", quoted(RESERVED))
+            }
+            Kind::Name | Kind::Sign => quoted(self.text),
+            Kind::End(called) => called.to_owned(),
+            Kind::NoName => format!("{}, which begins with no letter", quoted(self.text)),
+            Kind::Character(shown) if is_shown(shown) => quoted(shown.to_string()),
+            Kind::Character(other) => format!("the character U+{:04X}", u32::from(other)),
+            Kind::Byte(byte) => format!("the byte {byte}"),
         };
         self.error(found, would_do)
     }
 
-    /// That this token was found and is something that is said of it, where something
-    /// else would do.
+    /// That this was found and is something that is said of it, where something else would
+    /// do.
     pub fn which(self, is: &str, would_do: impl Into<String>) -> TextError {
         self.error(format!("{}, {is}", quoted(self.text)), would_do)
     }
 
-    /// That something was found at this token where something else would do.
-    pub fn error(self, found: String, would_do: impl Into<String>) -> TextError {
+    fn error(self, found: String, would_do: impl Into<String>) -> TextError {
         TextError {
             line: self.line,
             column: self.column,
-            width: self.text.len(),
+            width: self.width.max(1),
             found,
             would_do: would_do.into(),
         }
@@ -61,136 +82,125 @@ impl Token<'_> {
 pub struct Line<'t> {
     number: usize,
     bytes: &'t [u8],
+    end: &'static str,
     at: usize,
 }
 
 impl<'t> Line<'t> {
     /// A line of this number with these bytes, its comment left out.
-    pub fn new(number: usize, bytes: &'t [u8]) -> Self {
+    pub fn of_text(number: usize, bytes: &'t [u8]) -> Self {
+        let bytes = bytes.strip_suffix(b"\r").unwrap_or(bytes);
         let said = bytes.split(|&byte| byte == COMMENT).next();
-        let bytes = said.unwrap_or_default();
         Self {
             number,
+            bytes: said.unwrap_or_default(),
+            end: "the end of the line",
+            at: 0,
+        }
+    }
+
+    /// An argument as a line of its own.
+    pub fn of_argument(bytes: &'t [u8]) -> Self {
+        Self {
+            number: 1,
             bytes,
+            end: "the end",
             at: 0,
         }
     }
 
     /// The next token, which is not read yet.
-    pub fn token(&self) -> Result<Token<'t>, TextError> {
+    pub fn token(&self) -> Token<'t> {
         let rest = &self.bytes[self.at..];
         let blank = rest.iter().take_while(|&&byte| is_blank(byte)).count();
-        let rest = &rest[blank..];
+        let token = first_token(&rest[blank..]).unwrap_or((Kind::End(self.end), 0));
+        let (kind, width) = token;
         // The end is directly behind the last token.
-        let before = if rest.is_empty() { 0 } else { blank };
-        let token = |length: usize| Token {
-            text: std::str::from_utf8(&rest[..length]).unwrap_or_default(),
+        let before = if width == 0 { 0 } else { blank };
+        let text = match kind {
+            Kind::Name | Kind::Sign | Kind::NoName => &rest[before..][..width],
+            _ => &[],
+        };
+        Token {
+            text: std::str::from_utf8(text).unwrap_or_default(),
+            kind,
+            width,
             line: self.number,
             column: self.at + before + 1,
-        };
-        let sign = SIGNS.iter().find(|sign| rest.starts_with(sign.as_bytes()));
-        match (rest.first(), sign) {
-            (None, _) => Ok(token(0)),
-            (_, Some(sign)) => Ok(token(sign.len())),
-            (Some(&first), None) if begins_name(first) => {
-                let length = rest.iter().take_while(|&&byte| continues_name(byte));
-                Ok(token(length.count()))
-            }
-            (Some(_), None) => Err(no_token(rest, token(0))),
         }
     }
 
-    /// Reads the next token, if it is this one.
-    pub fn takes(&mut self, text: &str) -> Result<bool, TextError> {
-        let token = self.token()?;
+    /// Goes behind a token.
+    pub fn pass(&mut self, token: Token) {
+        self.at = token.column - 1 + token.width;
+    }
+
+    /// Reads the next token, if it is this sign or name.
+    pub fn takes(&mut self, text: &str) -> bool {
+        let token = self.token();
         let taken = token.text == text;
         if taken {
             self.pass(token);
         }
-        Ok(taken)
+        taken
     }
 
     /// Reads the next token, which must be this sign. Otherwise what would do is said.
     pub fn sign(&mut self, sign: &str, would_do: &str) -> Result<(), TextError> {
-        match self.takes(sign)? {
+        match self.takes(sign) {
             true => Ok(()),
-            false => Err(self.token()?.instead_of(would_do)),
+            false => Err(self.token().instead_of(would_do)),
         }
     }
 
-    /// Reads the next token, which must be a name and not the reserved word. Otherwise what
-    /// would do is said.
+    /// Reads the next token, which must be a name. Otherwise what would do is said.
     pub fn name(&mut self, would_do: &str) -> Result<Token<'t>, TextError> {
-        let token = self.token()?;
-        if !token.is_name() {
+        let token = self.token();
+        if token.kind != Kind::Name || token.text == RESERVED {
             return Err(token.instead_of(would_do));
         }
-        if token.text == RESERVED {
-            return Err(token.which("which is reserved", would_do));
+        if token.text.len() > MOST_CHARACTERS {
+            let found = format!("a name of {} characters", token.text.len());
+            return Err(token.error(found, format!("at most {MOST_CHARACTERS}")));
         }
         self.pass(token);
         Ok(token)
     }
 
-    /// Says what would do but the line's end, if that does not come next.
+    /// Says what would do, if the end does not come next.
     pub fn end(&self, would_do: &str) -> Result<(), TextError> {
-        let token = self.token()?;
-        match token.text {
-            "" => Ok(()),
-            _ => Err(token.instead_of(would_do)),
+        match self.token() {
+            end if end.is_end() => Ok(()),
+            token => Err(token.instead_of(would_do)),
         }
-    }
-
-    /// Whether the line's end comes next.
-    pub fn at_end(&self) -> Result<bool, TextError> {
-        self.token().map(|token| token.text.is_empty())
-    }
-
-    /// Goes behind a token.
-    fn pass(&mut self, token: Token) {
-        self.at = token.column - 1 + token.text.len();
     }
 }
 
-/// The error of what begins no token: a digit, another character, or a byte that is no
-/// character.
-fn no_token(rest: &[u8], here: Token) -> TextError {
-    let character = rest.utf8_chunks().next();
-    let character = character.and_then(|chunk| chunk.valid().chars().next());
-    let (found, width, would_do) = match character {
-        Some(part @ ('-' | '>')) => (quoted(part.to_string()), 1, quoted("->")),
-        Some(digit) if digit.is_ascii_digit() => {
-            let name = rest.iter().take_while(|&&byte| continues_name(byte));
-            let name: String = name.map(|&byte| char::from(byte)).collect();
-            let would_do = "a name that begins with a letter".to_owned();
-            (quoted(&name), name.len(), would_do)
-        }
-        character => {
-            let printed = character.filter(|character| !character.is_control());
-            let found = match printed {
-                Some(printed) => quoted(printed.to_string()),
-                None => format!("the byte {}", rest[0]),
-            };
-            (found, 1, "a name or a sign".to_owned())
-        }
-    };
-    TextError {
-        width,
-        ..here.error(found, would_do)
+/// What bytes begin with, which is no blank, and how many bytes that takes; nothing where
+/// there are none.
+fn first_token(bytes: &[u8]) -> Option<(Kind, usize)> {
+    let &first = bytes.first()?;
+    if let Some(sign) = SIGNS.iter().find(|sign| bytes.starts_with(sign.as_bytes())) {
+        return Some((Kind::Sign, sign.len()));
     }
+    let letters = bytes.iter().take_while(|&&byte| is_in_name(byte)).count();
+    if letters > 0 {
+        let is_name = first.is_ascii_alphabetic() || first == b'_';
+        let kind = if is_name { Kind::Name } else { Kind::NoName };
+        return Some((kind, letters));
+    }
+    let chunk = bytes.utf8_chunks().next();
+    let character = chunk.and_then(|chunk| chunk.valid().chars().next());
+    let character = character.filter(|character| !character.is_ascii_control());
+    Some((character.map_or(Kind::Byte(first), Kind::Character), 1))
 }
 
 /// Whether a byte is nothing but a space between tokens.
 fn is_blank(byte: u8) -> bool {
-    matches!(byte, b' ' | b'\t' | b'\r')
+    matches!(byte, b' ' | b'\t')
 }
 
-/// Whether a name may begin with this byte.
-fn begins_name(byte: u8) -> bool {
-    byte.is_ascii_alphabetic() || byte == b'_'
-}
-
-/// Whether this byte may stand in a name behind the first one.
-fn continues_name(byte: u8) -> bool {
-    begins_name(byte) || byte.is_ascii_digit() || byte == b'.'
+/// Whether a byte may stand in a name.
+fn is_in_name(byte: u8) -> bool {
+    byte.is_ascii_alphanumeric() || matches!(byte, b'_' | b'.')
 }

@@ -1,6 +1,8 @@
 //! Texts that are read, and bad input of every kind.
 
-use super::{is_text, order_names, read, set_names, write, Text, TextError};
+use super::{
+    is_text, looks_like_text, order_names, read, set_names, write, Text, TextError, MOST_BYTES,
+};
 use crate::query::{Dependency, Query, Rule};
 
 /// The document that has the grammar.
@@ -54,6 +56,21 @@ fn a_text_is_told_from_bytes_by_its_first_byte() {
     for first in 0..=255 {
         assert_eq!(is_text(&[first]), (32..=126).contains(&first), "{first}");
         assert_eq!(is_text(&[first, 0]), is_text(&[first]));
+    }
+}
+
+#[test]
+fn what_looks_like_text() {
+    for text in [
+        "columns a",
+        "\ncolumns a",
+        "\t# \u{e9}",
+        "\u{feff}columns a\r\n",
+    ] {
+        assert!(looks_like_text(text.as_bytes()), "{text:?}");
+    }
+    for bytes in [&b""[..], b"\0", b"a\x07", b"\xff", b"columns \xc3"] {
+        assert!(!looks_like_text(bytes), "{bytes:?}");
     }
 }
 
@@ -148,6 +165,9 @@ fn empty_orders_lists_and_texts() {
     assert_eq!(read_query(" # nothing"), Query::default());
 }
 
+/// Every word that a line may begin with behind `columns`.
+const ANY_STATEMENT: &str = "`produced`, `tested`, `sets` or `set`";
+
 /// Bad input behind these lines.
 const BEFORE: &str = "columns time axis code\nproduced (time)\n";
 
@@ -157,38 +177,65 @@ const BAD_LINES: &[(&str, usize, &str, &str)] = &[
     // The line's first word.
     ("test (time)", 1, "`test`", "`tested`"),
     ("Produced (time)", 1, "`Produced`", "`produced`"),
+    ("  order (time)", 3, "`order`", ANY_STATEMENT),
+    ("(time)", 1, "`(`", ANY_STATEMENT),
+    ("set. x: time -> axis", 1, "`set.`", "`sets` or `set`"),
     (
-        "  order (time)",
-        3,
-        "`order`",
-        "`columns`, `produced`, `tested`, `sets` or `set`",
-    ),
-    (
-        "(time)",
+        "2 (time)",
         1,
-        "`(`",
-        "`columns`, `produced`, `tested`, `sets` or `set`",
+        "`2`, which begins with no letter",
+        ANY_STATEMENT,
     ),
+    ("\u{b}", 1, "the byte 11", ANY_STATEMENT),
     (
         "columns speed",
         1,
-        "`columns`, a second line of all columns",
-        "one",
+        "`columns`, a second time",
+        "one line with all columns",
     ),
     // Characters.
-    ("tested (time);", 14, "`;`", "a name or a sign"),
-    ("tested (\u{e9})", 9, "`\u{e9}`", "a name or a sign"),
-    ("tested (time\u{7})", 13, "the byte 7", "a name or a sign"),
-    ("\u{b}", 1, "the byte 11", "a name or a sign"),
-    ("tested (\u{85})", 9, "the byte 194", "a name or a sign"),
-    ("set x: time - axis", 13, "`-`", "`->`"),
-    ("set x: time > axis", 13, "`>`", "`->`"),
-    ("set x: time => axis", 14, "`>`", "`->`"),
+    ("tested (time);", 14, "`;`", "an order in parentheses"),
+    ("tested (time;axis)", 13, "`;`", "`,` or `)`"),
+    ("tested (\u{e9})", 9, "`\u{e9}`", "a column or `)`"),
+    (
+        "tested (\u{20ac}\u{20ac})",
+        9,
+        "the character U+20AC",
+        "a column or `)`",
+    ),
+    (
+        "tested\u{a0}(time)",
+        7,
+        "the character U+00A0",
+        "an order in parentheses",
+    ),
+    ("tested (time\u{7})", 13, "the byte 7", "`,` or `)`"),
+    (
+        "tested (time)\r(axis)",
+        14,
+        "the byte 13",
+        "an order in parentheses",
+    ),
+    (
+        "tested (\u{85})",
+        9,
+        "the character U+0085",
+        "a column or `)`",
+    ),
+    ("set x: time - axis", 13, "`-`", "`->`, `=` or `,`"),
+    ("set x: time > axis", 13, "`>`", "`->`, `=` or `,`"),
+    ("set x: time => axis", 14, "`>`", "a column"),
+    (
+        "set x: time 5",
+        13,
+        "`5`, which begins with no letter",
+        "`->`, `=` or `,`",
+    ),
     (
         "tested (2nd.a)",
         9,
-        "`2nd.a`",
-        "a name that begins with a letter",
+        "`2nd.a`, which begins with no letter",
+        "a column or `)`",
     ),
     // Orders.
     ("tested time", 8, "`time`", "an order in parentheses"),
@@ -205,7 +252,12 @@ const BAD_LINES: &[(&str, usize, &str, &str)] = &[
     ("tested (,time)", 9, "`,`", "a column or `)`"),
     ("tested (", 9, "the end of the line", "a column or `)`"),
     ("tested ((time))", 9, "`(`", "a column or `)`"),
-    ("tested (time desc)", 14, "`desc`", "`,` or `)`"),
+    (
+        "tested (time desc)",
+        14,
+        "`desc`, which is reserved",
+        "`,` or `)`",
+    ),
     (
         "tested (desc)",
         9,
@@ -229,7 +281,7 @@ const BAD_LINES: &[(&str, usize, &str, &str)] = &[
         "tested (speed)",
         9,
         "`speed`, which is no column",
-        "`time`, `axis`, `code` or a name more behind `columns`",
+        "`time`, `axis`, `code` or a new name in the line `columns`",
     ),
     // Sets and dependencies.
     ("set", 4, "the end of the line", "the name of a set"),
@@ -334,19 +386,25 @@ const BAD_TEXTS: &[(&str, (usize, usize), &str, &str)] = &[
     (
         "produced (time)\ncolumns time",
         (1, 1),
-        "`produced`, before the line `columns`",
-        "`columns` and the names of all columns",
+        "`produced`",
+        "`columns` with the names of all columns",
     ),
     (
-        "# columns\n set x: a -> b",
+        "# columns\n colums a",
         (2, 2),
-        "`set`, before the line `columns`",
-        "`columns` and the names of all columns",
+        "`colums`",
+        "`columns` with the names of all columns",
     ),
     (
         "columns time, axis",
         (1, 13),
         "`,`",
+        "a name or the end of the line",
+    ),
+    (
+        "columns wind-speed",
+        (1, 13),
+        "`-`",
         "a name or the end of the line",
     ),
     (
@@ -365,37 +423,49 @@ const BAD_TEXTS: &[(&str, (usize, usize), &str, &str)] = &[
         "columns\nproduced (time)",
         (2, 11),
         "`time`, which is no column",
-        "a name more behind `columns`",
+        "a new name in the line `columns`",
+    ),
+    (
+        "columns l_key o_key\nproduced (_key)",
+        (2, 11),
+        "`_key`, which is no column",
+        "`l_key` or `o_key`",
+    ),
+    (
+        "columns a b\nproduced (x, b, b, b, b)",
+        (2, 11),
+        "`x`, which is no column",
+        "`a`, `b` or a new name in the line `columns`",
     ),
     (
         "columns a b\nsets x\nsets y",
         (3, 1),
-        "`sets`, a second line of all sets",
-        "one",
+        "`sets`, a second time",
+        "one line with all sets",
     ),
     (
         "columns a b\nset x: a -> b\nsets x",
         (3, 1),
-        "`sets`, behind a line `set`",
-        "a place before all of them",
+        "`sets`, below a line `set`",
+        "a place above all of them",
     ),
     (
         "columns a b\nsets filter join\nset fliter: a -> b",
         (3, 5),
-        "`fliter`, which is not behind `sets`",
+        "`fliter`, which is not in the line `sets`",
         "`filter`",
     ),
     (
         "columns a b\nsets filter join\nset x: a -> b",
         (3, 5),
-        "`x`, which is not behind `sets`",
-        "`filter`, `join` or a name more behind `sets`",
+        "`x`, which is not in the line `sets`",
+        "`filter`, `join` or a new name in the line `sets`",
     ),
     (
         "columns a b\nsets\nset x: a -> b",
         (3, 5),
-        "`x`, which is not behind `sets`",
-        "a name more behind `sets`",
+        "`x`, which is not in the line `sets`",
+        "a new name in the line `sets`",
     ),
 ];
 
@@ -429,7 +499,6 @@ fn bad_texts() {
 
 #[test]
 fn bytes_that_are_no_text() {
-    let text = |bytes: &[u8]| [BEFORE.as_bytes(), bytes].concat();
     for (bytes, found) in [
         (&b"tested (\xff)"[..], "the byte 255"),
         (b"tested (\xc3", "the byte 195"),
@@ -437,17 +506,100 @@ fn bytes_that_are_no_text() {
         (b"tested (\0)", "the byte 0"),
         (b"tested (\x7f)", "the byte 127"),
     ] {
-        assert_error(&text(bytes), (3, 9), found, "a name or a sign");
+        let text = [BEFORE.as_bytes(), bytes].concat();
+        assert_error(&text, (3, 9), found, "a column or `)`");
     }
-    let wide = "tested (\u{20ac}\u{20ac})".as_bytes();
-    assert_error(&text(wide), (3, 9), "`\u{20ac}`", "a name or a sign");
+}
+
+#[test]
+fn more_than_a_size_can_count() {
+    let names: String = (0..255).map(|name| format!("n{name} ")).collect();
+    let orders = "() ".repeat(255);
+    let sets: String = (0..255).map(|set| format!("set n{set}: -> a\n")).collect();
+    let after = |begin: &str, rest: &str| [begin, rest].concat();
+    for (begun, one_more, found, most) in [
+        (after("columns ", &names), "x", "`x`, a column too many", 12),
+        (
+            after("columns a\nproduced ", &orders),
+            "()",
+            "`(`, a produced order too many",
+            8,
+        ),
+        (
+            after("columns a\ntested ", &orders),
+            "()",
+            "`(`, a tested order too many",
+            8,
+        ),
+        (
+            after("columns a\nsets ", &names),
+            "x",
+            "`x`, a set too many",
+            8,
+        ),
+        (
+            after("columns a\n", &sets),
+            "set n0: -> a",
+            "`set`, a dependency too many",
+            16,
+        ),
+    ] {
+        assert!(read(begun.as_bytes()).is_ok(), "{begun}");
+        let line = begun.split('\n').count();
+        let column = begun.rsplit('\n').next().unwrap_or_default().len() + 1;
+        let text = begun + one_more;
+        let would_do = format!("at most {most}");
+        assert_error(text.as_bytes(), (line, column), found, &would_do);
+    }
+}
+
+#[test]
+fn long_names_and_texts() {
+    let name = |letters| "n".repeat(letters);
+    assert_eq!(
+        read_query(&format!("columns {}", name(64))).columns,
+        [name(64)]
+    );
+    let text = format!("columns {}", name(65));
+    assert_error(
+        text.as_bytes(),
+        (1, 9),
+        "a name of 65 characters",
+        "at most 64",
+    );
+
+    let begun = format!("columns a # {}\nproduced (a)\n#", name(500));
+    let filled = |length: usize, with: &str| begun.clone() + &with.repeat(length - begun.len());
+    for with in ["x", " ", "\n"] {
+        assert!(read(filled(MOST_BYTES, with).as_bytes()).is_ok());
+    }
+    let too_long = "more than 1048576 bytes";
+    let place = (3, MOST_BYTES - begun.len() + 2);
+    for length in [MOST_BYTES + 1, MOST_BYTES + 2, MOST_BYTES + 1000] {
+        assert_error(filled(length, "x").as_bytes(), place, too_long, "fewer");
+        let lines = filled(length, "\n");
+        assert_error(
+            lines.as_bytes(),
+            (MOST_BYTES - begun.len() + 3, 1),
+            too_long,
+            "fewer",
+        );
+    }
+    // What comes before the limit is told first.
+    let text = filled(MOST_BYTES + 1, "x").replace("(a)", "(b)");
+    assert_error(
+        text.as_bytes(),
+        (2, 11),
+        "`b`, which is no column",
+        "`a` or a new name in the line `columns`",
+    );
 }
 
 /// The error of a text, shown with its line.
-fn shown(text: &[u8]) -> String {
-    match read(text) {
+fn shown(text: impl AsRef<[u8]>) -> String {
+    match read(text.as_ref()) {
         Ok(text) => panic!("no error in {text:?}"),
-        Err(error) => error.shown("q.txt", text),
+        Err(error) => error.shown("q.txt", text.as_ref()),
     }
 }
 
@@ -456,17 +608,42 @@ fn an_error_is_shown_with_its_line_and_marks() {
     let text = format!("{BEFORE}tested (time, cod)   # the report\nset x: time -> axis");
     let expected = "q.txt:3:15: found `cod`, which is no column; `code` would do\n\
         tested (time, cod)   # the report\n              ^^^";
-    assert_eq!(shown(text.as_bytes()), expected);
+    assert_eq!(shown(text), expected);
 
-    let text = b"columns\ta\n\tproduced\t(a\r\n";
-    let expected = "q.txt:2:13: found the end of the line; `,` or `)` would do\n\
-        \tproduced\t(a\n\t        \t  ^";
+    // A tab has the place of one blank.
+    let text = "columns\ta\n\tproduced\t(a\r\n";
+    let expected = "q.txt:2:13: found the end of the line; `,` or `)` would do\n \
+        produced (a\n            ^";
     assert_eq!(shown(text), expected);
 
     // Nothing that moves a terminal's cursor is shown again.
-    let text = b"columns 9\x1b[2J\xff # \x07";
-    let expected = "q.txt:1:9: found `9`; a name that begins with a letter would do\n\
-        columns 9\u{fffd}[2J\u{fffd} # \u{fffd}\n        ^";
+    let text = b"columns 9\x1b[2J\xff # \x07\xe2\x80\xae";
+    let expected = "q.txt:1:9: found `9`, which begins with no letter; \
+        a name or the end of the line would do\n\
+        columns 9\u{fffd}[2J\u{fffd} # \u{fffd}\u{fffd}\n        ^";
+    assert_eq!(shown(text), expected);
+}
+
+#[test]
+fn of_a_long_line_the_part_around_the_error_is_shown() {
+    let blank = |count| " ".repeat(count);
+    let text = format!("columns{}@{}", blank(900), "x".repeat(900));
+    let expected = format!(
+        "q.txt:1:908: found `@`; a name or the end of the line would do\n\
+        ..{}@{}..\n{}^",
+        blank(60),
+        "x".repeat(39),
+        blank(62)
+    );
+    assert_eq!(shown(text), expected);
+    let name = "x".repeat(900);
+    let text = format!("columns {name}");
+    let expected = format!(
+        "q.txt:1:9: found a name of 900 characters; at most 64 would do\n\
+        columns {}..\n        {}",
+        "x".repeat(92),
+        "^".repeat(92)
+    );
     assert_eq!(shown(text), expected);
 }
 
@@ -494,17 +671,20 @@ fn bad_orders_and_sets_that_stand_alone() {
     type Read = fn(&[u8]) -> Result<Vec<String>, TextError>;
     let (order, sets): (Read, Read) = (order_names, set_names);
     for (read, argument, column, found, would_do) in [
+        (order, "", 1, "the end", "an order in parentheses"),
         (
             order,
-            "",
+            "0",
             1,
-            "the end of the line",
+            "`0`, which begins with no letter",
             "an order in parentheses",
         ),
+        (order, "-", 1, "`-`", "an order in parentheses"),
         (order, "time", 1, "`time`", "an order in parentheses"),
-        (order, "(time", 6, "the end of the line", "`,` or `)`"),
+        (order, "(time", 6, "the end", "`,` or `)`"),
         (order, "(time) (axis)", 8, "`(`", "nothing behind the order"),
-        (order, "(time\n)", 6, "the byte 10", "a name or a sign"),
+        (order, "(time)#x", 7, "`#`", "nothing behind the order"),
+        (order, "(time\n)", 6, "the byte 10", "`,` or `)`"),
         (
             order,
             "(desc)",
@@ -512,11 +692,18 @@ fn bad_orders_and_sets_that_stand_alone() {
             "`desc`, which is reserved",
             "a column or `)`",
         ),
-        (sets, "", 1, "the end of the line", "`none` or a set"),
-        (sets, "1", 1, "`1`", "a name that begins with a letter"),
+        (sets, "", 1, "the end", "`none` or a set"),
+        (
+            sets,
+            "1",
+            1,
+            "`1`, which begins with no letter",
+            "`none` or a set",
+        ),
         (sets, "filter join", 8, "`join`", "`,` or nothing"),
-        (sets, "filter,", 8, "the end of the line", "a set"),
+        (sets, "filter,", 8, "the end", "a set"),
         (sets, "none,join", 5, "`,`", "nothing behind `none`"),
+        (sets, "none#", 5, "`#`", "nothing behind `none`"),
         (
             sets,
             "filter,none",

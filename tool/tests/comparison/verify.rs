@@ -1,0 +1,393 @@
+//! A supplier's table on trial.
+
+use std::fs;
+use std::path::{Path, PathBuf};
+
+use order_tables_tool::failure::Failure;
+use reference::builder::table_of;
+use reference::random::Random;
+use reference::refusal::{LENGTH, MISMATCH, ROW, SIZE};
+use reference::samples::{self, Kind, Shape, Supplied};
+use reference::table::{self, Table};
+use reference::{trials, verification, Query};
+
+use crate::answers::Answers;
+use crate::words::{counted, listed, number, order_text, query_sizes_text, sizes_text};
+use crate::{
+    check_query_refused, is_taken_for_text, query_with_table, tool, STANDARD_INPUT, WORDS,
+};
+
+/// Trials of supplied tables by the tool, and what was compared so far.
+struct Comparison {
+    random: Random,
+    /// The folder of the file that the tool reads beside standard input.
+    folder: PathBuf,
+    /// By refusal, 0 for tables that are accepted.
+    outcomes: [usize; WORDS.len()],
+    /// Of the wrong answers, those found by trying one run after the other.
+    tried: usize,
+    /// Of the longest run to a wrong answer, how many sets it has.
+    longest: usize,
+    /// What was said of tables that are refused.
+    said: Vec<String>,
+}
+
+impl Comparison {
+    /// A comparison with a folder of its own.
+    fn new(seed: u64, folder: &str) -> Self {
+        let folders = Path::new(env!("CARGO_TARGET_TMPDIR")).join("compared_tables");
+        let folder = folders.join(folder);
+        fs::create_dir_all(&folder).expect("a folder can be made");
+        Self {
+            random: Random::new(seed),
+            folder,
+            outcomes: Default::default(),
+            tried: 0,
+            longest: 0,
+            said: Vec::new(),
+        }
+    }
+
+    /// What the tool says of a table on trial, with the names of the query's file and of
+    /// the table's, one of which is standard input.
+    fn verify(&mut self, query: &[u8], table: &[u8]) -> ([String; 2], Result<String, Failure>) {
+        let file = self.folder.join("file");
+        let name = file.display().to_string();
+        let query_in_file = self.random.one_in(2);
+        let content = if query_in_file { query } else { table };
+        fs::write(&file, content).expect("a file can be written");
+        let standard = STANDARD_INPUT.to_owned();
+        if query_in_file {
+            let given = tool(&["verify", &name, "-"], table);
+            ([name, standard], given)
+        } else {
+            let given = tool(&["verify", "-", &name], query);
+            ([standard, name], given)
+        }
+    }
+
+    /// Compares the trial of a table for a query with this table or refusal, and gives
+    /// the outcome.
+    fn compare(&mut self, query: &[u8], own: &Result<Table, u8>, table: &[u8]) -> Result<(), u8> {
+        let case = format!("table {table:?}, query {query:?}");
+        let ([query_name, table_name], given) = self.verify(query, table);
+        let own = own.as_ref().map_err(|&refusal| refusal);
+        let expected = own.and_then(|own| verification::compare(own, table));
+        let outcome = usize::from(expected.err().unwrap_or(0));
+        self.outcomes[outcome] += 1;
+        match (own, expected) {
+            (_, Ok(())) => assert_eq!(given, Ok("accepted\n".to_owned()), "{case}"),
+            (Err(_), Err(refusal)) => check_query_refused(&query_name, query, refusal, given),
+            (Ok(_), Err(refusal)) => {
+                let query = Query::read(query).expect("a query with a table is read");
+                let what = match refusal {
+                    LENGTH => wrong_length(table),
+                    SIZE => wrong_sizes(table),
+                    ROW => stray(&query, table),
+                    MISMATCH => mismatch(&query, &query_name, table),
+                    _ => self.wrong_answer(&query, table, &given),
+                };
+                let word = WORDS[outcome];
+                let words = format!("{table_name}: refused {refusal}, {word}: {what}");
+                assert_eq!(given, Err(Failure::Refused(words)), "{case}");
+                self.said.push(what);
+            }
+        }
+        expected
+    }
+
+    /// Compares the trial of one table of each kind.
+    fn compare_kinds(&mut self, query: &Query) {
+        let bytes = query.write();
+        let own = table_of(&bytes);
+        let table = own.as_ref().expect("the query has a table");
+        for kind in Kind::ALL {
+            let Supplied { table, known } = samples::supplied(&mut self.random, kind, query, table);
+            let verified = self.compare(&bytes, &own, &table);
+            let as_known = known.is_none_or(|known| known == verified);
+            assert!(as_known, "{kind:?} {verified:?} {table:?} {query:?}");
+        }
+    }
+
+    /// The wrong answer of a table that has to be told. Where there are too many runs to
+    /// try, it is the one that is told, if that is one and no shorter than those tried.
+    fn wrong_answer(
+        &mut self,
+        query: &Query,
+        table: &[u8],
+        given: &Result<String, Failure>,
+    ) -> String {
+        let table = Table::read(table).expect("a table with wrong answers has the form");
+        let mut answers = Answers::new(query, &table);
+        let (produced, run) = match answers.first_wrong() {
+            Ok(first) => {
+                self.tried += 1;
+                first
+            }
+            Err(tried) => {
+                let words = given.as_ref().err().map(Failure::words);
+                let told = words.and_then(|words| told_run(query, words));
+                let (produced, run) = told.unwrap_or_else(|| panic!("{given:?} {query:?}"));
+                assert!(run.len() >= tried, "{given:?} {table:?} {query:?}");
+                (produced, run)
+            }
+        };
+        self.longest = self.longest.max(run.len());
+        let wrong = answers.wrong(produced, &run);
+        assert!(!wrong.is_empty(), "{given:?} {table:?} {query:?}");
+        format!(
+            "entered by {}, {}, it says {}",
+            order_text(&query.produced[produced]),
+            run_text(&run),
+            wrong.join(", and ")
+        )
+    }
+
+    /// Whether each of these refusals, 0 for none, came more often than so.
+    fn has(&self, refusals: &[usize], count: usize) -> bool {
+        let mut refusals = refusals.iter();
+        refusals.all(|&refusal| self.outcomes[refusal] > count)
+    }
+
+    /// Whether each of these was said of more than so many tables.
+    fn has_said(&self, words: &[&str], count: usize) -> bool {
+        let said = |words: &&str| self.said.iter().filter(|said| said.contains(words)).count();
+        words.iter().map(said).all(|said| said > count)
+    }
+
+    /// Says what was compared.
+    fn report(&self, what: &str) {
+        let outcomes = self.outcomes.iter().zip(WORDS);
+        let outcomes = outcomes.filter(|(&count, _)| count > 0);
+        let outcomes = outcomes.map(|(count, word)| format!("{count} {word}"));
+        println!(
+            "{what}: {}; {} of the wrong answers by trying all runs, the longest run {}",
+            outcomes.collect::<Vec<String>>().join(", "),
+            self.tried,
+            self.longest
+        );
+    }
+}
+
+/// That a table has another length than its sizes imply, or too few bytes for them.
+fn wrong_length(table: &[u8]) -> String {
+    let bytes = counted(table.len(), "byte");
+    match table.first_chunk() {
+        None if table.is_empty() => "it is empty, and 4 sizes come first".to_owned(),
+        None => format!("{bytes} where 4 sizes come first"),
+        Some(sizes) => {
+            let [states, produced, _, sets] = sizes.map(usize::from);
+            let implied = 4 + produced + states * (sets + 2);
+            format!("{bytes} where {implied} would do by the sizes")
+        }
+    }
+}
+
+/// The sizes of a table that are outside their limits.
+fn wrong_sizes(table: &[u8]) -> String {
+    let limits = [
+        ("state", 1, 128),
+        ("produced order", 1, 8),
+        ("tested order", 0, 8),
+        ("set", 0, 8),
+    ];
+    let sizes = table.iter().zip(limits);
+    let outside = sizes.filter(|(&size, (_, least, most))| size < *least || size > *most);
+    let outside = outside.map(|(&size, (what, least, most))| {
+        format!("{} where {least} to {most} would do", counted(size, what))
+    });
+    listed(outside.collect(), "and")
+}
+
+/// The first start or successor that is no state, or else the first state with a bit past
+/// the interesting orders.
+fn stray(query: &Query, table: &[u8]) -> String {
+    let [states, produced, tested, sets] = *table.first_chunk().expect("a table has sizes");
+    let mut starts = 0..produced;
+    if let Some(start) = starts.find(|&start| table::enter(table, start) == Err(ROW)) {
+        let order = query.produced.get(usize::from(start));
+        let named = order.map(|order| order_text(order));
+        let named = named.unwrap_or(format!("produced order {start}"));
+        return format!("{named} starts in no state");
+    }
+    let mut taken = (0..states).flat_map(|state| (0..sets).map(move |set| (state, set)));
+    if let Some((state, set)) = taken.find(|&(s, set)| table::take(table, s, set) == Err(ROW)) {
+        let set = match set < query.sets {
+            true => format!("s{set}"),
+            false => format!("set {set}"),
+        };
+        return format!("in state {state} {set} leads to no state");
+    }
+    let orders = produced + tested;
+    let mut words = (0..states).map(|state| table::word(table, state));
+    let past = words.position(|word| word.is_ok_and(|word| u32::from(word) >> orders != 0));
+    let state = past.expect("something is stray");
+    let orders = counted(orders, "interesting order");
+    format!("state {state} has a held bit past the {orders}")
+}
+
+/// The sizes of a table and those of the query.
+fn mismatch(query: &Query, query_name: &str, table: &[u8]) -> String {
+    let table = Table::read(table).expect("a table of other sizes has the form");
+    let tested = usize::from(table.tested);
+    let sizes = sizes_text(table.starts.len(), tested, table.sets.into());
+    let expected = query_sizes_text(query);
+    format!("it has {sizes}, and {query_name} has {expected}")
+}
+
+/// A run of sets, in words.
+fn run_text(run: &[u8]) -> String {
+    let mut words = String::from("at the start");
+    let mut rest = run;
+    while let Some(&set) = rest.first() {
+        let times = rest.iter().take_while(|&&taken| taken == set).count();
+        words = match rest.len() == run.len() {
+            true => format!("after s{set}"),
+            false => format!("{words}, then s{set}"),
+        };
+        if times > 1 {
+            words += &format!(" {times} times");
+        }
+        rest = &rest[times..];
+    }
+    words
+}
+
+/// The produced order and the run of sets of a wrong answer that is told.
+fn told_run(query: &Query, words: &str) -> Option<(usize, Vec<u8>)> {
+    let (_, told) = words.split_once("entered by ")?;
+    let (told, _) = told.split_once(", it says ")?;
+    let (order, run) = told.split_once("), ")?;
+    let mut produced = query.produced.iter().map(|order| order_text(order));
+    let produced = produced.position(|produced| produced == format!("{order})"))?;
+    let Some(run) = run.strip_prefix("after ") else {
+        return (run == "at the start").then_some((produced, Vec::new()));
+    };
+    let mut sets = Vec::new();
+    for taken in run.split(", then ") {
+        let (set, times) = match taken.split_once(' ') {
+            Some((set, times)) => (set, times.strip_suffix(" times")?.parse().ok()?),
+            None => (taken, 1),
+        };
+        sets.extend(vec![u8::try_from(number(set, "s")?).ok()?; times]);
+    }
+    let are_sets = sets.iter().all(|&set| set < query.sets);
+    are_sets.then_some((produced, sets))
+}
+
+#[test]
+fn tables_of_every_kind_on_trial() {
+    let mut comparison = Comparison::new(3, "tables_of_every_kind");
+    for (shape, count) in [
+        (Shape::SMALL, 80),
+        (Shape::CHAINS, 80),
+        (Shape::MIDDLE, 20),
+        (Shape::FEW_SETS, 10),
+        (Shape::ONE_START, 10),
+    ] {
+        for _ in 0..count {
+            let query = query_with_table(&mut comparison.random, shape);
+            comparison.compare_kinds(&query);
+        }
+    }
+    for query in [samples::longest_table(), samples::own_column_per_set(7)] {
+        comparison.compare_kinds(&query);
+    }
+    comparison.report("tables of every kind");
+    assert!(comparison.has(&[0, 13], 500) && comparison.has(&[11, 12], 100));
+    assert!(comparison.has(&[1, 2], 5));
+    assert!(comparison.tried > 500 && comparison.outcomes[13] - comparison.tried > 5);
+    let strays = [
+        ") starts in no state",
+        "produced order 3 starts in no state",
+        " s0 leads to no state",
+        " set 3 leads to no state",
+        "has a held bit past the ",
+    ];
+    assert!(comparison.has_said(&strays, 1));
+    let wrong = [
+        ", at the start, it says",
+        ", after s0, it says",
+        ", and that",
+    ];
+    assert!(comparison.has_said(&wrong, 50));
+}
+
+#[test]
+fn supplied_tables_of_the_trials() {
+    let mut comparison = Comparison::new(4, "supplied_tables");
+    let trials = trials::all();
+    let mut tables = 0;
+    for trial in &trials {
+        let own = table_of(&trial.query);
+        for other in trials.iter().filter(|other| !other.supplied.is_empty()) {
+            let verified = comparison.compare(&trial.query, &own, &other.supplied);
+            if other.name == trial.name {
+                assert_eq!(Some(verified), trial.verified, "{}", trial.name);
+                tables += 1;
+            }
+        }
+    }
+    comparison.report("supplied tables of the trials");
+    assert!(tables >= 10 && comparison.has(&[0, 2, 4, 5, 8, 12, 13], 3));
+}
+
+#[test]
+fn tables_for_queries_of_every_kind() {
+    let mut comparison = Comparison::new(5, "queries_of_every_kind");
+    for _ in 0..1000 {
+        let random = &mut comparison.random;
+        let query = samples::any_query(random);
+        if is_taken_for_text(&query) {
+            continue;
+        }
+        let own = table_of(&query);
+        let table = match (Query::read(&query), &own) {
+            (Ok(query), Ok(own)) => {
+                let kind = Kind::ALL[random.below(Kind::ALL.len())];
+                samples::supplied(random, kind, &query, own).table
+            }
+            _ => {
+                let (_, table) = samples::query_with_table(random, Shape::SMALL);
+                let damaged = samples::damaged(random, &table);
+                [table, damaged][random.below(2)].clone()
+            }
+        };
+        let _ = comparison.compare(&query, &own, &table);
+    }
+    comparison.report("tables for queries of every kind");
+    assert!(comparison.has(&[0, 1, 2, 3, 4, 5, 6, 8, 11, 12, 13], 3));
+}
+
+#[test]
+fn every_byte_of_the_example_table_changed() {
+    let mut comparison = Comparison::new(6, "every_byte");
+    let example = trials::example();
+    let own = table_of(&example.query);
+    for table in samples::each_byte_changed(&example.table, (0..20).chain([128, 129, 255])) {
+        let _ = comparison.compare(&example.query, &own, &table);
+    }
+    for length in 0..example.table.len() {
+        let _ = comparison.compare(&example.query, &own, &example.table[..length]);
+    }
+    comparison.report("the example's table with a byte changed");
+    assert!(comparison.has(&[0, 1, 2, 11, 12, 13], 0));
+}
+
+#[test]
+fn tables_that_one_set_leads_through() {
+    let mut comparison = Comparison::new(7, "one_set");
+    let (query, [right, wrong]) = samples::longest_chain();
+    let (query, own) = (query.write(), table_of(&query.write()));
+    for (table, expected) in [(right, Ok(())), (wrong, Err(13))] {
+        for _ in 0..10 {
+            let renumbered = samples::renumbered(&mut comparison.random, &table);
+            for table in [&table, &renumbered] {
+                let verified = comparison.compare(&query, &own, &table.write());
+                assert_eq!(verified, expected, "{table:?}");
+            }
+        }
+    }
+    comparison.report("tables that one set leads through");
+    assert_eq!((comparison.tried, comparison.longest), (20, 127));
+}
