@@ -1,7 +1,7 @@
 #!/usr/bin/env bash
 # Builds each example in C and in Rust on the proved library, runs both, and compares what they print with the example's file .expected. Then runs
-# the commands that README.md shows, and compares what they print with what stands there, and makes the picture of the first query where Graphviz is
-# installed.
+# the commands that README.md shows, and compares what they print with what stands there. Where Graphviz is installed, it makes the picture of the
+# first query too, compares it with the one that README.md shows, and makes pictures of the trials' graphs.
 # The library is in the folder that ORDER_TABLES_LIB names, or where `rt staticlib order_tables` writes it. `rt check order_listing order_verify
 # order_counterexample` makes the programs that the commands run, and `cargo build --release -p order_tables_tool` the tool.
 set -euo pipefail
@@ -34,9 +34,18 @@ run_shown "A first query"
 run_shown "A supplier's table on trial"
 run_shown "Two rows that show why a sort is needed"
 
+# The names of a picture's nodes and arrows, and the words in it. Where these stand differs with the fonts and the edition of Graphviz.
+picture_words() { # FILE
+    sed -n 's/&#45;/-/g; s/.*<title>\(.*\)<\/title>.*/\1/p; s/.*<text[^>]*>\(.*\)<\/text>.*/\1/p' "$1" | sort
+}
 if command -v dot > /dev/null; then
     target/release/order_tables draw examples/first.txt | dot -Tsvg > target/first.svg
-    echo "target/first.svg is the picture of the first query"
+    diff <(picture_words examples/first.svg) <(picture_words target/first.svg)
+    echo "$(picture_words target/first.svg | wc -l) names and words of the picture are those of examples/first.svg"
+    for graph in tool/tests/golden/*.dot; do
+        dot -Tsvg "$graph" > /dev/null
+    done
+    echo "Graphviz reads $(find tool/tests/golden -name '*.dot' | wc -l) graphs of the trials"
 else
     echo "Graphviz is not installed, and the first query's graph stays text"
 fi

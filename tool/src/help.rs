@@ -1,5 +1,7 @@
 //! The commands, and what is said of them for help.
 
+/// How the program is called.
+const USAGE: &str = "usage: order_tables COMMAND ARGUMENTS\n";
 /// What is said of the program.
 const ABOUT: &str = "\
 Sort orders of a query: which of them hold where, by the proved library.
@@ -13,14 +15,25 @@ it is bytes, its columns are called a, b, .. and its sets s0, s1, .. A text has 
 Errors go to standard error. The exit status is 0 when the command is done, 1 for an
 error in a text or a refusal, and 2 for misuse or a file that cannot be read.
 ";
-/// Where more is said.
-const MORE: &str = "\
-`order_tables --help` lists the commands, `order_tables COMMAND --help` says more of one.
-";
+/// Where more is said of each command.
+const MORE: &str = "`order_tables COMMAND --help` says more of a command.\n";
 
 const ENCODE: &str = "\
 Prints the bytes of the query in FILE, once they have passed the checks 1 to 6. The
 programs order_listing, order_verify and order_counterexample read such bytes.
+
+A text names the columns, then the orders that are produced and tested, the most
+significant column first, then the dependencies, each with the set that brings it:
+
+    columns time axis code
+    produced (time) (time, axis)
+    tested (time, code)
+    set filter: time -> axis    # time settles axis; up to three columns may settle one
+    set join: axis = code       # each row has one value in both
+    set constant: -> axis       # all rows have one value
+
+A set may have several lines. A line `sets filter join constant` above them numbers all
+sets, empty ones too; without it first use does.
 ";
 const DECODE: &str = "\
 Prints the query in FILE as text, once it has passed the checks 1 to 6. A query in bytes
@@ -132,9 +145,9 @@ impl Command {
     }
 }
 
-/// How the program is called.
+/// How the program is called, and where its commands are listed.
 pub fn usage() -> String {
-    ["usage: order_tables COMMAND ARGUMENTS\n", MORE].concat()
+    format!("{USAGE}`order_tables --help` lists the commands.\n")
 }
 
 /// The help for the program.
@@ -144,5 +157,5 @@ pub fn help() -> String {
         let (summary, _) = command.described();
         format!("  {call:42}  {summary}\n")
     });
-    [&usage(), ABOUT, &commands.concat(), FILES].join("\n")
+    [USAGE, ABOUT, &commands.concat(), FILES, MORE].join("\n")
 }

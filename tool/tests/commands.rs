@@ -443,6 +443,17 @@ fn helps() {
     }
 }
 
+#[test]
+fn the_text_that_is_shown_for_help_is_read() {
+    let help = help::Command::Encode.help();
+    let text = help.lines().filter_map(|line| line.strip_prefix("    "));
+    let text: String = text.flat_map(|line| [line, "\n"]).collect();
+    let decoded = "columns time axis code\nproduced (time) (time, axis)\ntested (time, code)\n\
+        set filter: time -> axis\nset join: axis = code\nset constant: -> axis\n";
+    let printed = run_with(&["decode", "-"], text.as_bytes());
+    assert_eq!(printed, Ended::printing(decoded));
+}
+
 /// Arguments that are misused, with what is said of them.
 const MISUSED: &[(&[&str], &str)] = &[
     (&[], "a command is missing"),

@@ -47,6 +47,9 @@ impl Token<'_> {
     /// That this was found where something else would do.
     pub fn instead_of(self, would_do: impl Into<String>) -> TextError {
         let found = match self.kind {
+            Kind::Name | Kind::NoName if self.text.len() > MOST_CHARACTERS => {
+                format!("a word of {} characters", self.text.len())
+            }
             Kind::Name if self.text == RESERVED => {
                 format!("{}, which is reserved", quoted(RESERVED))
             }

@@ -568,6 +568,12 @@ fn long_names_and_texts() {
         "at most 64",
     );
 
+    for digit in ["", "9"] {
+        let text = format!("columns a\n{digit}{} (a)", name(5000 - digit.len()));
+        let found = "a word of 5000 characters";
+        assert_error(text.as_bytes(), (2, 1), found, ANY_STATEMENT);
+    }
+
     let begun = format!("columns a # {}\nproduced (a)\n#", name(500));
     let filled = |length: usize, with: &str| begun.clone() + &with.repeat(length - begun.len());
     for with in ["x", " ", "\n"] {
