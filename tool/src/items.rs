@@ -5,6 +5,7 @@
 
 use order_tables::Refusal;
 
+use crate::names::Names;
 use crate::query::ITEM_COLUMNS;
 use crate::sizes::{query_check, Size};
 
@@ -34,19 +35,13 @@ impl<'q> Items<'q> {
         (columns.len() == heads.len() * ITEM_COLUMNS).then_some(items)
     }
 
-    /// What the checks 3 to 6 refuse, of the first item that they refuse so. Items are
-    /// called as they are said to be.
-    pub fn refused(
-        self,
-        refusal: Refusal,
-        called: impl Fn(Self, usize) -> String,
-    ) -> Option<String> {
-        let called = |item| called(self, item);
+    /// What the checks 3 to 6 refuse, of the first item that they refuse so.
+    pub fn refused(self, refusal: Refusal, names: &impl Names) -> Option<String> {
         let item = (0..self.heads.len()).find(|&item| {
             let up_to_it = self.first(item + 1);
             query_check(&up_to_it) == Some(refusal)
         })?;
-        let this = called(item);
+        let this = names.item(self, item);
         let [columns, _, _, sets, _] = self.sizes;
         let unused = "an unused byte other than 255";
         Some(match refusal {
@@ -60,7 +55,8 @@ impl<'q> Items<'q> {
             Refusal::Repeat => format!("{this} has a column twice"),
             _ => {
                 let same = |&other: &usize| self.bytes(other) == self.bytes(item);
-                match (0..item).find(same).map(called) {
+                let other = (0..item).find(same).map(|other| names.item(self, other));
+                match other {
                     Some(other) if other != this => format!("{this} is the same as {other}"),
                     _ => format!("{this} is there twice"),
                 }

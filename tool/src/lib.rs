@@ -9,8 +9,8 @@
 //! [`command`] reads the command line and [`help`] has what is said of it. [`load`] reads
 //! a query, as [`mod@text`] or as bytes, into a `query` with names. `explain`, `draw`,
 //! `verify` and `counterexample` do what the commands of these names do, over `states`
-//! and `runs`. `refusals` and [`failure`] say why something is not done, with `sizes` and
-//! `items`, and `near` what a misspelt name may mean.
+//! and `runs`. `refusals` and [`failure`] say why something is not done, with `sizes`,
+//! `items` and their `names`, and `near` what a misspelt name may mean.
 
 #![forbid(unsafe_code)]
 
@@ -22,6 +22,7 @@ pub mod failure;
 pub mod help;
 mod items;
 pub mod load;
+mod names;
 mod near;
 mod query;
 mod refusals;

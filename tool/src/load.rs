@@ -3,7 +3,7 @@
 use order_tables::{build, Query as Proved, Table, LONGEST_TABLE, SCRATCH_BYTES};
 
 use crate::failure::Failure;
-use crate::items::Items;
+use crate::names::Numbers;
 use crate::query::Query;
 use crate::refusals::{of_query, refused};
 use crate::sizes::most_states;
@@ -36,12 +36,10 @@ impl Loaded {
     fn of_text(file: String, content: &[u8]) -> Result<Self, Failure> {
         let text = text::read(content);
         let text = text.map_err(|error| Failure::Refused(error.shown(&file, content)))?;
-        let Text { query, lines } = text;
-        let bytes = query.write();
-        let read = Proved::new(&bytes).map_err(|refusal| {
-            let called = |_, item| format!("{} in line {}", query.item_text(item), lines[item]);
-            refused(&file, refusal, &of_query(refusal, &bytes, called))
-        })?;
+        let bytes = text.query.write();
+        let read = Proved::new(&bytes)
+            .map_err(|refusal| refused(&file, refusal, &of_query(refusal, &bytes, &text)))?;
+        let Text { query, .. } = text;
         let read = Query {
             columns: query.columns.clone(),
             sets: query.sets.clone(),
@@ -56,7 +54,7 @@ impl Loaded {
         let read = Proved::new(&bytes).map_err(|refusal| {
             let what = match looks_like_text(&bytes) {
                 true => read_as_bytes(bytes[0]),
-                false => of_query(refusal, &bytes, Items::numbered),
+                false => of_query(refusal, &bytes, &Numbers),
             };
             refused(&file, refusal, &what)
         })?;

@@ -9,8 +9,9 @@ use order_tables::Refusal;
 
 use crate::failure::Failure;
 use crate::items::Items;
+use crate::names::Names;
 use crate::query::ITEM_COLUMNS;
-use crate::sizes::{QUERY, TABLE};
+use crate::sizes::{Size, QUERY, TABLE};
 use crate::text::{looks_like_text, MOST_BYTES};
 use crate::words::counted;
 
@@ -20,12 +21,8 @@ pub fn refused(file: &str, refusal: Refusal, what: &str) -> Failure {
     Failure::Refused(format!("{file}: {refusal}, {word}: {what}"))
 }
 
-/// What the checks 1 to 6 refuse of a query. Its items are called as they are said to be.
-pub fn of_query<'q>(
-    refusal: Refusal,
-    query: &'q [u8],
-    called: impl Fn(Items<'q>, usize) -> String,
-) -> String {
+/// What the checks 1 to 6 refuse of a query, in these names.
+pub fn of_query(refusal: Refusal, query: &[u8], names: &impl Names) -> String {
     match (refusal, query) {
         (Refusal::Length, [_, produced, tested, _, dependencies, ..]) => {
             let items = [produced, tested, dependencies].map(|&size| usize::from(size));
@@ -33,9 +30,12 @@ pub fn of_query<'q>(
             wrong_total(query, QUERY.count() + items * (1 + ITEM_COLUMNS))
         }
         (Refusal::Length, _) => too_few(query, QUERY.count()),
-        (Refusal::Size, _) => QUERY.outside(query),
+        (Refusal::Size, _) => QUERY.outside(query, |place, number| {
+            let size = Size::ALL.get(place);
+            size.and_then(|&size| names.counted(size, number))
+        }),
         _ => {
-            let refused = Items::of(query).and_then(|items| items.refused(refusal, called));
+            let refused = Items::of(query).and_then(|items| items.refused(refusal, names));
             refused.expect("an item is refused where the sizes and the length are not")
         }
     }
@@ -51,7 +51,7 @@ pub fn of_table(refusal: Refusal, table: &[u8]) -> String {
             wrong_total(table, implied)
         }
         (Refusal::Length, _) => too_few(table, TABLE.count()),
-        _ => TABLE.outside(table),
+        _ => TABLE.outside(table, |_, _| None),
     }
 }
 

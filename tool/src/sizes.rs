@@ -23,6 +23,15 @@ pub enum Size {
 }
 
 impl Size {
+    /// All sizes, in their sequence.
+    pub const ALL: [Self; 5] = [
+        Self::Columns,
+        Self::Produced,
+        Self::Tested,
+        Self::Sets,
+        Self::Dependencies,
+    ];
+
     /// What one is called of what is counted.
     pub fn one(self) -> &'static str {
         let [one, _] = QUERY.counting[self as usize];
@@ -78,14 +87,18 @@ impl Sizes {
     }
 
     /// The sizes, with which some bytes begin, that are outside their limits, with what
-    /// would do.
-    pub fn outside(self, bytes: &[u8]) -> String {
+    /// would do, and the first one that is too many, if that of this place and number has
+    /// a name.
+    pub fn outside(self, bytes: &[u8], name: impl Fn(usize, usize) -> Option<String>) -> String {
         let sizes = bytes.iter().zip(self.counting).enumerate();
         let outside = sizes.filter(|&(place, (&size, _))| !self.is_within(place, size));
         let outside = outside.map(|(place, (&size, &what))| {
             let (least, most) = (self.least(place), self.most(place));
             let size = counted(size.into(), what);
-            format!("{size} where {least} to {most} would do")
+            let first = name(place, most.into());
+            let from = first.map(|first| format!(" (too many from {first} on)"));
+            let from = from.unwrap_or_default();
+            format!("{size} where {least} to {most} would do{from}")
         });
         joined(&outside.collect::<Vec<String>>(), "and")
     }

@@ -200,8 +200,23 @@ const REFUSED_QUERIES: &[(&[u8], &str)] = &[
         "2, size: 0 columns where 1 to 12 would do and 0 produced orders where 1 to 8 would do",
     ),
     (
-        b"columns a b c d e f g h i j k l m\nproduced ()",
-        "2, size: 13 columns where 1 to 12 would do",
+        b"columns a b c d e f g h i j k l m n\nproduced ()",
+        "2, size: 14 columns where 1 to 12 would do (too many from m on)",
+    ),
+    (
+        b"columns a\nproduced () (a) () ()\ntested (a)\nproduced () () () () (a) ()\nsets b c d e f g h i j",
+        "2, size: 10 produced orders where 1 to 8 would do (too many from (a) in line 4 on) \
+        and 9 sets where 0 to 8 would do (too many from j on)",
+    ),
+    (
+        b"columns a\nproduced ()\ntested () () () () () () () () (a)",
+        "2, size: 9 tested orders where 0 to 8 would do (too many from (a) in line 3 on)",
+    ),
+    (
+        b"columns a\nset x:->a\nset x:->a\nset x:->a\nset x:->a\nset x:->a\nset x:->a\nset x:->a\n\
+        set x:->a\nset x:->a\nset x:->a\nset x:->a\nset x:->a\nset x:->a\nset x:->a\nset x:->a\n\
+        set x:->a\nproduced (a)\ntested ()\nset x: a = a",
+        "2, size: 17 dependencies where 0 to 16 would do (too many from a = a in line 20 on)",
     ),
     (
         &[13, 1, 0, 0, 17],

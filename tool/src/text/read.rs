@@ -26,6 +26,14 @@ pub struct Text {
     pub lines: Vec<usize>,
 }
 
+impl Text {
+    /// An item as the text has it, and its line.
+    pub fn item_in_line(&self, item: usize) -> String {
+        let line = self.lines[item];
+        format!("{} in line {line}", self.query.item_text(item))
+    }
+}
+
 /// Reads a text, or gives the first error in it. What is read is no query yet: the
 /// proved library's checks come after this.
 pub fn read(text: &[u8]) -> Result<Text, TextError> {
