@@ -28,12 +28,7 @@ const COUNTEREXAMPLE: &str = "order_counterexample";
 
 /// A folder of this name for the files of one test, empty at first.
 fn folder(name: &str) -> PathBuf {
-    let folder = Path::new(env!("CARGO_TARGET_TMPDIR")).join(name);
-    if folder.exists() {
-        fs::remove_dir_all(&folder).expect("the folder can be removed");
-    }
-    fs::create_dir_all(&folder).expect("the folder can be made");
-    folder
+    program::empty_folder(Path::new(env!("CARGO_TARGET_TMPDIR")).join(name))
 }
 
 /// The files of the example's query and its table.

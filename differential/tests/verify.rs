@@ -185,17 +185,7 @@ fn queries_of_every_kind() {
             let random = &mut comparison.random;
             let query = samples::any_query(random);
             let own = table_of(&query);
-            let table = match (Query::read(&query), &own) {
-                (Ok(query), Ok(own)) => {
-                    let kind = Kind::ALL[random.below(Kind::ALL.len())];
-                    samples::supplied(random, kind, &query, own).table
-                }
-                _ => {
-                    let (_, table) = samples::query_with_table(random, Shape::SMALL);
-                    let damaged = samples::damaged(random, &table);
-                    [table, damaged][random.below(2)].clone()
-                }
-            };
+            let table = samples::supplied_for_any(random, &query, &own);
             let _ = comparison.compare_in_some(&query, &own, &table);
         }
         comparison.report("queries of every kind");

@@ -2,13 +2,14 @@
 
 use std::ffi::OsStr;
 use std::fs::{self, OpenOptions};
-use std::io::{pipe, Write};
+use std::io::pipe;
 use std::path::{Path, PathBuf};
-use std::process::{Command, Stdio};
+use std::process::Command;
 use std::time::{Duration, Instant};
 
 use order_tables_tool::help;
 use reference::builder::table_of;
+use reference::program::{empty_folder, ended};
 use reference::random::Random;
 use reference::samples::{self, Shape};
 use reference::trials::repository;
@@ -53,18 +54,8 @@ fn program() -> Command {
 
 /// Runs the program with these arguments and this standard input.
 fn run_with(arguments: &[impl AsRef<OsStr>], input: &[u8]) -> Ended {
-    let mut running = program()
-        .args(arguments)
-        .stdin(Stdio::piped())
-        .stdout(Stdio::piped())
-        .stderr(Stdio::piped())
-        .spawn()
-        .expect("the program starts");
-    let mut pipe = running.stdin.take().expect("the input is a pipe");
     // A program that does not read its input closes it.
-    let _ = pipe.write_all(input);
-    drop(pipe);
-    let ended = running.wait_with_output().expect("the program ends");
+    let (_, ended) = ended(program().args(arguments), input);
     Ended {
         status: ended.status.code().expect("the program is not stopped"),
         output: ended.stdout,
@@ -84,12 +75,7 @@ fn file(path: &str) -> Vec<u8> {
 
 /// A folder for the files of one test, empty at first.
 fn folder(name: &str) -> PathBuf {
-    let folder = Path::new(env!("CARGO_TARGET_TMPDIR")).join(name);
-    if folder.exists() {
-        fs::remove_dir_all(&folder).expect("the folder can be removed");
-    }
-    fs::create_dir_all(&folder).expect("the folder can be made");
-    folder
+    empty_folder(Path::new(env!("CARGO_TARGET_TMPDIR")).join(name))
 }
 
 const TEXT: &str = "examples/first.txt";
@@ -191,6 +177,15 @@ const REFUSED_QUERIES: &[(&[u8], &str)] = &[
         b"columns a\nproduced (a)\nset x: a = a",
         "5, repeat: a = a in line 3 has a column twice",
     ),
+    // Of several items that are refused so, the first one is told.
+    (
+        b"columns a b\nproduced (a) (b)\ntested () (b) (a) (b, a)",
+        "6, twin: (b) in line 3 is the same as (b) in line 2",
+    ),
+    (
+        b"columns a b\nproduced (b) (a, a)\ntested (b, b) (a)\nset x: a -> a",
+        "5, repeat: (a, a) in line 2 has a column twice",
+    ),
     (
         b"columns a\n",
         "2, size: 0 produced orders where 1 to 8 would do",
@@ -229,7 +224,7 @@ const REFUSED_QUERIES: &[(&[u8], &str)] = &[
         "1, length: 9 bytes where 10 would do by the sizes",
     ),
     (
-        &[2, 1, 0, 0, 0, 5, 0, 1, 0, 1],
+        &[2, 2, 0, 0, 0, 5, 5, 0, 1, 0, 1, 0, 1, 0, 1],
         "3, item: produced order 0 (head 5, bytes 0 1 0 1) has a length above 4 or an unused byte other than 255",
     ),
     (
@@ -237,7 +232,9 @@ const REFUSED_QUERIES: &[(&[u8], &str)] = &[
         "3, item: dependency 0 (head 81, bytes 0 1 255 255) has a kind above 4, a set not below 1 or an unused byte other than 255",
     ),
     (
-        &[2, 1, 1, 0, 0, 1, 1, 0, 255, 255, 255, 2, 255, 255, 255],
+        &[
+            2, 1, 2, 0, 0, 1, 1, 1, 0, 255, 255, 255, 2, 255, 255, 255, 3, 255, 255, 255,
+        ],
         "4, column: tested order 1 (head 1, bytes 2 255 255 255) has a column not below 2",
     ),
     (

@@ -23,5 +23,7 @@ pub use queries::{
     query_with_table, some_columns, with_equal_orders, Shape, QUERY_EDGES,
 };
 pub use rows::rows;
-pub use supplied::{longest_chain, renumbered, supplied, unmerged, Kind, Supplied};
+pub use supplied::{
+    longest_chain, renumbered, supplied, supplied_for_any, unmerged, Kind, Supplied,
+};
 pub use tables::{any_table, table_of_sizes, TABLE_EDGES};

@@ -138,6 +138,22 @@ pub fn supplied(random: &mut Random, kind: Kind, query: &Query, own: &Table) -> 
     Supplied { table, known }
 }
 
+/// A random table, supplied for a query with this table or refusal: of any kind, or
+/// where the query has none the table of another one, damaged or not.
+pub fn supplied_for_any(random: &mut Random, query: &[u8], own: &Result<Table, u8>) -> Vec<u8> {
+    match (Query::read(query), own) {
+        (Ok(query), Ok(own)) => {
+            let kind = Kind::ALL[random.below(Kind::ALL.len())];
+            supplied(random, kind, &query, own).table
+        }
+        _ => {
+            let (_, table) = query_with_table(random, Shape::SMALL);
+            let damaged = damaged(random, &table);
+            [table, damaged][random.below(2)].clone()
+        }
+    }
+}
+
 /// The table with a row for each pair of a produced order and a choice of sets in
 /// force, numbered by the walk, where there is room for them.
 pub fn unmerged(query: &Query) -> Option<Table> {

@@ -5,6 +5,7 @@ use std::path::{Path, PathBuf};
 
 use order_tables_tool::failure::Failure;
 use reference::builder::table_of;
+use reference::program::empty_folder;
 use reference::random::Random;
 use reference::refusal::{LENGTH, MISMATCH, ROW, SIZE};
 use reference::samples::{self, Kind, Shape, Supplied};
@@ -36,11 +37,9 @@ impl Comparison {
     /// A comparison with a folder of its own.
     fn new(seed: u64, folder: &str) -> Self {
         let folders = Path::new(env!("CARGO_TARGET_TMPDIR")).join("compared_tables");
-        let folder = folders.join(folder);
-        fs::create_dir_all(&folder).expect("a folder can be made");
         Self {
             random: Random::new(seed),
-            folder,
+            folder: empty_folder(folders.join(folder)),
             outcomes: Default::default(),
             tried: 0,
             longest: 0,
@@ -342,17 +341,7 @@ fn tables_for_queries_of_every_kind() {
             continue;
         }
         let own = table_of(&query);
-        let table = match (Query::read(&query), &own) {
-            (Ok(query), Ok(own)) => {
-                let kind = Kind::ALL[random.below(Kind::ALL.len())];
-                samples::supplied(random, kind, &query, own).table
-            }
-            _ => {
-                let (_, table) = samples::query_with_table(random, Shape::SMALL);
-                let damaged = samples::damaged(random, &table);
-                [table, damaged][random.below(2)].clone()
-            }
-        };
+        let table = samples::supplied_for_any(random, &query, &own);
         let _ = comparison.compare(&query, &own, &table);
     }
     comparison.report("tables for queries of every kind");
