@@ -595,8 +595,15 @@ fn endless_input() {
     );
 }
 
-/// All ways to run the program with a query, in a folder, and with a table for it that is
-/// wrong in the last bit of the last state, if it has one.
+/// An order of a query in bytes, as it is written.
+fn order_text(order: Option<&Vec<u8>>) -> String {
+    let columns = order.expect("the query has the order").iter();
+    let names = columns.map(|column| char::from(b'a' + column).to_string());
+    format!("({})", names.collect::<Vec<String>>().join(", "))
+}
+
+/// All ways to run the program with a query, in a folder: with a table for it that is
+/// wrong in the last bit of the last state, if it has one, and with all sets in force.
 fn runs(folder: &Path, query: &Query) -> Vec<Vec<String>> {
     let file = written(folder, "query", &query.write());
     let mut runs: Vec<Vec<String>> = ["encode", "decode", "explain", "draw"]
@@ -606,8 +613,16 @@ fn runs(folder: &Path, query: &Query) -> Vec<Vec<String>> {
         let last = table.states.len() - 1;
         table.states[last].held ^= 1 << (table.interesting() - 1);
         let table = written(folder, "table", &table.write());
-        runs.push(vec!["verify".to_owned(), file, table]);
+        runs.push(vec!["verify".to_owned(), file.clone(), table]);
     }
+    let sets: Vec<String> = (0..query.sets).map(|set| format!("s{set}")).collect();
+    runs.push(vec![
+        "counterexample".to_owned(),
+        file,
+        order_text(query.produced.first()),
+        sets.join(","),
+        order_text(query.interesting().last()),
+    ]);
     runs
 }
 
