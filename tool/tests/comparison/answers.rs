@@ -1,6 +1,6 @@
 //! The plain model's answers, and those of a table beside them.
 
-use std::collections::BTreeMap;
+use std::collections::{BTreeMap, HashSet};
 
 use reference::model::Model;
 use reference::table::Table;
@@ -55,8 +55,7 @@ impl<'q> Answers<'q> {
 
     /// The held words after an entry and a run of sets: the model's and the table's.
     fn words(&mut self, produced: usize, run: &[u8]) -> [u16; 2] {
-        let choice = run.iter().fold(0, |choice, set| choice | 1 << set);
-        let word = self.words.entry((produced, choice));
+        let word = self.words.entry((produced, choice(run)));
         let word = *word.or_insert_with(|| word_after(self.query, produced, run));
         let state = state_after(self.table, produced, run);
         [word, self.table.states[state].held]
@@ -77,17 +76,47 @@ impl<'q> Answers<'q> {
         wrong.collect()
     }
 
-    /// The first wrong answer, shorter runs tried before longer ones, equally long ones by
-    /// their sets' numbers, and each from all produced orders in turn. Where there are too
-    /// many, how many sets those have that were not tried.
-    pub fn first_wrong(&mut self) -> Result<(usize, Vec<u8>), usize> {
+    /// The first wrong answer: that of a shortest run, of equally short ones the one with
+    /// the smaller set numbers, and then the one from the first produced order. What comes
+    /// behind a run depends on the state that it leads to and on the sets that it takes,
+    /// so of runs alike in both the first one is enough.
+    pub fn first_wrong(&mut self) -> Option<(usize, Vec<u8>)> {
+        let mut runs: Vec<(Vec<u8>, usize)> = (0..self.query.produced.len())
+            .map(|produced| (Vec::new(), produced))
+            .collect();
+        let mut seen = HashSet::new();
+        while !runs.is_empty() {
+            runs.sort();
+            runs.retain(|(run, produced)| {
+                let state = state_after(self.table, *produced, run);
+                seen.insert((*produced, state, choice(run)))
+            });
+            for (run, produced) in &runs {
+                let [right, said] = self.words(*produced, run);
+                if right != said {
+                    return Some((*produced, run.clone()));
+                }
+            }
+            let sets = 0..self.query.sets;
+            let longer = |(run, produced): (Vec<u8>, usize)| {
+                let sets = sets.clone();
+                sets.map(move |set| ([&run[..], &[set]].concat(), produced))
+            };
+            runs = runs.into_iter().flat_map(longer).collect();
+        }
+        None
+    }
+
+    /// The first wrong answer by trying all runs, one after the other; nothing where they
+    /// are too many.
+    pub fn first_wrong_of_all_runs(&mut self) -> Option<(usize, Vec<u8>)> {
         let sets = usize::from(self.query.sets);
         let mut tried = 0;
         for length in 0..MOST_TAKEN {
             let runs = sets.pow(length);
             tried += runs;
             if tried > MOST_RUNS {
-                return Err(length as usize);
+                return None;
             }
             for number in 0..runs {
                 let places = (0..length).rev();
@@ -96,11 +125,16 @@ impl<'q> Answers<'q> {
                 for produced in 0..self.query.produced.len() {
                     let [right, said] = self.words(produced, &run);
                     if right != said {
-                        return Ok((produced, run));
+                        return Some((produced, run));
                     }
                 }
             }
         }
-        Err(MOST_TAKEN as usize)
+        None
     }
+}
+
+/// The sets that a run takes, bit i for set i.
+fn choice(run: &[u8]) -> u32 {
+    run.iter().fold(0, |choice, set| choice | 1 << set)
 }

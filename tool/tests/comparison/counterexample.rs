@@ -8,8 +8,9 @@ use reference::refusal::{HANDLE, STATES};
 use reference::samples::{self, Shape};
 use reference::{trials, Query};
 
+use crate::refused::check_query_refused;
 use crate::words::{column_name, column_names, listed, order_text, order_texts, set_names};
-use crate::{check_query_refused, is_taken_for_text, tool, STANDARD_INPUT, WORDS};
+use crate::{is_taken_for_text, tool, STANDARD_INPUT, WORDS};
 
 /// What the tool shows for an order looked for.
 fn counterexample(query: &[u8], [produced, sets, order]: [&str; 3]) -> Result<String, Failure> {
@@ -240,7 +241,7 @@ fn two_rows_of_refused_queries() {
             continue;
         };
         let given = counterexample(&query, ["(a)", "none", "(unknown)"]);
-        check_query_refused(STANDARD_INPUT, &query, refusal, given);
+        check_query_refused(STANDARD_INPUT, &query, refusal, &given);
         by_refusal[usize::from(refusal)] += 1;
     }
     println!("two rows of refused queries, by refusal: {by_refusal:?}");

@@ -5,6 +5,7 @@
 mod answers;
 mod counterexample;
 mod graph;
+mod refused;
 mod tables;
 mod verify;
 mod words;
@@ -14,11 +15,8 @@ use std::ffi::OsString;
 use order_tables_tool::command::run;
 use order_tables_tool::failure::Failure;
 use reference::random::Random;
-use reference::refusal::STATES;
 use reference::samples::{self, Shape};
 use reference::Query;
-
-use words::{listed, order_texts, set_names};
 
 /// The words of the refusals, by their numbers.
 const WORDS: [&str; 14] = [
@@ -46,27 +44,6 @@ fn tool(arguments: &[&str], mut input: &[u8]) -> Result<String, Failure> {
     let arguments: Vec<OsString> = arguments.iter().map(OsString::from).collect();
     let printed = run(&arguments, &mut input)?;
     Ok(String::from_utf8(printed).expect("text is printed"))
-}
-
-/// Checks that what is given is the refusal of a query in a file of this name. Of 1 to 6
-/// only the number and the word are compared.
-fn check_query_refused(file: &str, query: &[u8], refusal: u8, given: Result<String, Failure>) {
-    let case = format!("{given:?}, query {query:?}");
-    let failure = given.expect_err(&case);
-    assert_eq!(failure.status(), 1, "{case}");
-    let word = WORDS[usize::from(refusal)];
-    let head = format!("{file}: refused {refusal}, {word}: ");
-    let what = failure.words().strip_prefix(&head).expect(&case);
-    if refusal == STATES {
-        let query = Query::read(query).expect("only its states are refused");
-        let expected = format!(
-            "the smallest table has more than 128 states, for rows in {} and the sets {}",
-            listed(order_texts(&query.produced), "and"),
-            listed(set_names(0..query.sets), "and")
-        );
-        assert_eq!(what, expected, "{case}");
-    }
-    assert!(!what.is_empty(), "{case}");
 }
 
 /// Whether a query in bytes would be read as text.

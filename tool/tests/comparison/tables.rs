@@ -10,8 +10,9 @@ use reference::{trials, Query};
 
 use crate::answers::{state_after, word_after};
 use crate::graph::Graph;
+use crate::refused::check_query_refused;
 use crate::words::{counted, listed, order_text, orders_in, query_sizes_text, set_names};
-use crate::{check_query_refused, query_with_table, tool, STANDARD_INPUT};
+use crate::{query_with_table, tool, STANDARD_INPUT};
 
 /// What is expected of a query's table: its starts and successors, and the held orders of
 /// its states by the plain model.
@@ -174,7 +175,7 @@ fn printed(command: &str, queries: &[Vec<u8>]) -> (Vec<(String, Expected)>, usiz
                 printed.push((given, expected));
             }
             Err(refusal) => {
-                check_query_refused(STANDARD_INPUT, query, refusal, given);
+                check_query_refused(STANDARD_INPUT, query, refusal, &given);
                 refused += 1;
             }
         }

@@ -13,10 +13,9 @@ use reference::table::{self, Table};
 use reference::{trials, verification, Query};
 
 use crate::answers::Answers;
-use crate::words::{counted, listed, number, order_text, query_sizes_text, sizes_text};
-use crate::{
-    check_query_refused, is_taken_for_text, query_with_table, tool, STANDARD_INPUT, WORDS,
-};
+use crate::refused::{check_query_refused, wrong_length, wrong_sizes, TABLE_LIMITS};
+use crate::words::{counted, order_text, query_sizes_text, sizes_text};
+use crate::{is_taken_for_text, query_with_table, tool, STANDARD_INPUT, WORDS};
 
 /// Trials of supplied tables by the tool, and what was compared so far.
 struct Comparison {
@@ -76,15 +75,17 @@ impl Comparison {
         self.outcomes[outcome] += 1;
         match (own, expected) {
             (_, Ok(())) => assert_eq!(given, Ok("accepted\n".to_owned()), "{case}"),
-            (Err(_), Err(refusal)) => check_query_refused(&query_name, query, refusal, given),
+            (Err(_), Err(refusal)) => check_query_refused(&query_name, query, refusal, &given),
             (Ok(_), Err(refusal)) => {
                 let query = Query::read(query).expect("a query with a table is read");
                 let what = match refusal {
-                    LENGTH => wrong_length(table),
-                    SIZE => wrong_sizes(table),
+                    LENGTH => {
+                        wrong_length(table, 4, |sizes| 4 + sizes[1] + sizes[0] * (sizes[3] + 2))
+                    }
+                    SIZE => wrong_sizes(table, &TABLE_LIMITS),
                     ROW => stray(&query, table),
                     MISMATCH => mismatch(&query, &query_name, table),
-                    _ => self.wrong_answer(&query, table, &given),
+                    _ => self.wrong_answer(&query, table),
                 };
                 let word = WORDS[outcome];
                 let words = format!("{table_name}: refused {refusal}, {word}: {what}");
@@ -108,37 +109,23 @@ impl Comparison {
         }
     }
 
-    /// The wrong answer of a table that has to be told. Where there are too many runs to
-    /// try, it is the one that is told, if that is one and no shorter than those tried.
-    fn wrong_answer(
-        &mut self,
-        query: &Query,
-        table: &[u8],
-        given: &Result<String, Failure>,
-    ) -> String {
+    /// The wrong answer of a table that has to be told. Where all runs can be tried, they
+    /// give the same.
+    fn wrong_answer(&mut self, query: &Query, table: &[u8]) -> String {
         let table = Table::read(table).expect("a table with wrong answers has the form");
         let mut answers = Answers::new(query, &table);
-        let (produced, run) = match answers.first_wrong() {
-            Ok(first) => {
-                self.tried += 1;
-                first
-            }
-            Err(tried) => {
-                let words = given.as_ref().err().map(Failure::words);
-                let told = words.and_then(|words| told_run(query, words));
-                let (produced, run) = told.unwrap_or_else(|| panic!("{given:?} {query:?}"));
-                assert!(run.len() >= tried, "{given:?} {table:?} {query:?}");
-                (produced, run)
-            }
-        };
+        let wrong = answers.first_wrong();
+        let (produced, run) = wrong.expect("a table that is refused with 13 answers wrong");
+        if let Some(tried) = answers.first_wrong_of_all_runs() {
+            assert_eq!(tried, (produced, run.clone()), "{table:?} {query:?}");
+            self.tried += 1;
+        }
         self.longest = self.longest.max(run.len());
-        let wrong = answers.wrong(produced, &run);
-        assert!(!wrong.is_empty(), "{given:?} {table:?} {query:?}");
         format!(
             "entered by {}, {}, it says {}",
             order_text(&query.produced[produced]),
             run_text(&run),
-            wrong.join(", and ")
+            answers.wrong(produced, &run).join(", and ")
         )
     }
 
@@ -166,36 +153,6 @@ impl Comparison {
             self.longest
         );
     }
-}
-
-/// That a table has another length than its sizes imply, or too few bytes for them.
-fn wrong_length(table: &[u8]) -> String {
-    let bytes = counted(table.len(), "byte");
-    match table.first_chunk() {
-        None if table.is_empty() => "it is empty, and 4 sizes come first".to_owned(),
-        None => format!("{bytes} where 4 sizes come first"),
-        Some(sizes) => {
-            let [states, produced, _, sets] = sizes.map(usize::from);
-            let implied = 4 + produced + states * (sets + 2);
-            format!("{bytes} where {implied} would do by the sizes")
-        }
-    }
-}
-
-/// The sizes of a table that are outside their limits.
-fn wrong_sizes(table: &[u8]) -> String {
-    let limits = [
-        ("state", 1, 128),
-        ("produced order", 1, 8),
-        ("tested order", 0, 8),
-        ("set", 0, 8),
-    ];
-    let sizes = table.iter().zip(limits);
-    let outside = sizes.filter(|(&size, (_, least, most))| size < *least || size > *most);
-    let outside = outside.map(|(&size, (what, least, most))| {
-        format!("{} where {least} to {most} would do", counted(size, what))
-    });
-    listed(outside.collect(), "and")
 }
 
 /// The first start or successor that is no state, or else the first state with a bit past
@@ -250,28 +207,6 @@ fn run_text(run: &[u8]) -> String {
         rest = &rest[times..];
     }
     words
-}
-
-/// The produced order and the run of sets of a wrong answer that is told.
-fn told_run(query: &Query, words: &str) -> Option<(usize, Vec<u8>)> {
-    let (_, told) = words.split_once("entered by ")?;
-    let (told, _) = told.split_once(", it says ")?;
-    let (order, run) = told.split_once("), ")?;
-    let mut produced = query.produced.iter().map(|order| order_text(order));
-    let produced = produced.position(|produced| produced == format!("{order})"))?;
-    let Some(run) = run.strip_prefix("after ") else {
-        return (run == "at the start").then_some((produced, Vec::new()));
-    };
-    let mut sets = Vec::new();
-    for taken in run.split(", then ") {
-        let (set, times) = match taken.split_once(' ') {
-            Some((set, times)) => (set, times.strip_suffix(" times")?.parse().ok()?),
-            None => (taken, 1),
-        };
-        sets.extend(vec![u8::try_from(number(set, "s")?).ok()?; times]);
-    }
-    let are_sets = sets.iter().all(|&set| set < query.sets);
-    are_sets.then_some((produced, sets))
 }
 
 #[test]

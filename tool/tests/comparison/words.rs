@@ -38,9 +38,10 @@ pub fn listed(mut words: Vec<String>, by: &str) -> String {
 
 /// So many things of a kind.
 pub fn counted(count: impl Into<usize>, what: &str) -> String {
-    match count.into() {
-        1 => format!("1 {what}"),
-        count => format!("{count} {what}s"),
+    match (count.into(), what.strip_suffix('y')) {
+        (1, _) => format!("1 {what}"),
+        (count, Some(stem)) => format!("{count} {stem}ies"),
+        (count, None) => format!("{count} {what}s"),
     }
 }
 
