@@ -7,15 +7,15 @@ use Rattle.theory.specs.Limits.{longestTable}
 use Rattle.theory.specs.Refusals.{passed}
 use Rattle.theory.specs.Query.{Bytes, readQuery, queryRefusal}
 use Rattle.theory.specs.Table.{Table, writeTable}
-use Rattle.theory.specs.Build.{Constructs, table, Outcome, built, outcome, Means, query-refused, scratch-short, not-constructed, output-short, table-built}
+use Rattle.theory.specs.Build.{Constructs, table, Outcome, built, outcome, OutcomeMeans, query-refused, scratch-short, not-constructed, output-short, table-built}
 use Rattle.theory.proofs.BuildLaws.{outcome-means}
 use Rattle.theory.proofs.ConstructionLaws.{made}
 use Rattle.theory.proofs.DemandThree.{Built, built-faithful}
 use Rattle.table.specs.Form.{Formed}
 use Rattle.table.proofs.FormLaws.{formed, formed-short}
-use Rattle.builder.specs.Built.{answerOf}
+use Rattle.builder.specs.Built.{builtAnswer}
 
-answered : {query : Bytes} {scratch output : ℕ} {o : Outcome} → Means query scratch output o → answerOf o .refusal ≡ passed → (t : Bytes) × (o ≡ built t)
+answered : {query : Bytes} {scratch output : ℕ} {o : Outcome} → OutcomeMeans query scratch output o → builtAnswer o .refusal ≡ passed → (t : Bytes) × (o ≡ built t)
 answered (query-refused h) e = absurd (h e)
 answered (scratch-short _ _) e = absurd (omega arith)
 answered (not-constructed _ _ _) e = absurd (omega arith)
@@ -23,7 +23,7 @@ answered (output-short _ _ _ _) e = absurd (omega arith)
 answered (table-built _ _ _ _) e = (_, refl)
 
 -- a refusal's number is never 0: where the answer has none, a table was built ..
-pub granted : (query : Bytes) (scratch output : ℕ) → answerOf (outcome query scratch output) .refusal ≡ passed → (t : Bytes) × (outcome query scratch output ≡ built t)
+pub granted : (query : Bytes) (scratch output : ℕ) → builtAnswer (outcome query scratch output) .refusal ≡ passed → (t : Bytes) × (outcome query scratch output ≡ built t)
 granted query scratch output = answered (outcome-means query scratch output)
 
 -- .. and it has a table's form

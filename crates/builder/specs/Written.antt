@@ -10,5 +10,5 @@ use Rattle.theory.specs.Scratch.{successorsPart, startsPart, heldPart}
 abbrev pub frontIn : Bytes → (q p t s : ℕ) → Bytes
 frontIn work q p t s = q ∷ p ∷ t ∷ s ∷ take p (drop startsPart work)
 
-unfoldable pub tableIn : Bytes → (q p t s : ℕ) → Bytes
-tableIn work q p t s = (frontIn work q p t s ++ take (q * s) (drop successorsPart work)) ++ take (q * heldWidth) (drop heldPart work)
+unfoldable pub storedTable : Bytes → (q p t s : ℕ) → Bytes
+storedTable work q p t s = (frontIn work q p t s ++ take (q * s) (drop successorsPart work)) ++ take (q * heldWidth) (drop heldPart work)

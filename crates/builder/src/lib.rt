@@ -7,11 +7,12 @@ use numbers::refusals::SPACE;
 ghost use mathlib.Core.Path.{_≡_};
 ghost use Prim.Native.Nat.{_≤_};
 ghost use lib.ListN.{length};
-ghost use Rattle.theory.specs.Limits.{scratchLength};
 ghost use Rattle.theory.specs.Refusals.{passed};
 ghost use Rattle.theory.specs.Query.{readQuery, queryRefusal};
-ghost use Rattle.theory.specs.Build.{refused, construct, delivered, outcome, outputAfter, scratchAfter, zeroed};
-ghost use Rattle.builder.specs.Built.{answerOf, Done, Holding};
+ghost use Rattle.theory.specs.Table.{Table};
+ghost use Rattle.theory.specs.Scratch.{workLength};
+ghost use Rattle.theory.specs.Build.{refused, table, construct, delivered, outcome, outputAfter, scratchAfter, zeroed};
+ghost use Rattle.builder.specs.Built.{builtAnswer, Done, Holding};
 
 // What a build answers: the refusal, or 0; and the table's length, which is 0 on refusal.
 pub struct Built {
@@ -20,7 +21,7 @@ pub struct Built {
 }
 
 fn refused(n: u8) -> Built
-    ensures { λ r. ⌜ r ≡ answerOf (refused n) ⌝ }
+    ensures { λ r. ⌜ r ≡ builtAnswer (refused n) ⌝ }
 {
     Built {
         refusal: n,
@@ -28,18 +29,16 @@ fn refused(n: u8) -> Built
     }
 }
 
-// The constructed table goes into the output, or 9 where that is shorter.
-fn deliver(query: &[u8], work: &[u8], q: usize, output: &mut [u8]) -> Built
-    requires { ⌜ Holding (now query) (now work) q ⌝ }
-    ensures { λ r. ⌜ Done (delivered (construct (readQuery (now (query .entry)))) (length (now (output .entry)))) (now (output .entry)) (now (output .exit)) r ⌝ }
+// The table that lies in the scratch goes into the output, or 9 where that is shorter.
+fn deliver(work: &[u8], q: usize, p: u8, t: u8, s: u8, output: &mut [u8]) -> Built
+    requires { ⌜ ((contents : Table) × Holding contents (now work) q p t s) ⌝ }
+    ensures { λ r. ⌜ ((contents : Table) → Holding contents (now (work .entry)) q p t s → Done (delivered (table contents) (length (now (output .entry)))) (now (output .entry)) (now (output .exit)) r) ⌝ }
 {
-    let p = query::produced(query);
-    let s = query::sets(query);
     let size = write::size(q, p, s);
     if output.len() < size {
         return refused(SPACE);
     }
-    write::write(work, q, p, query::tested(query), s, output);
+    write::write(work, q, p, t, s, output);
     Built {
         refusal: PASSED,
         length: size,
@@ -48,7 +47,7 @@ fn deliver(query: &[u8], work: &[u8], q: usize, output: &mut [u8]) -> Built
 
 // Constructing, for a query that passed checks 1 to 6, then the output.
 fn construct_into(query: &[u8], work: &mut [u8], output: &mut [u8]) -> Built
-    requires { ⌜ (queryRefusal (now query) ≡ passed) × (scratchLength ≤ length (now work)) ⌝ }
+    requires { ⌜ (queryRefusal (now query) ≡ passed) × (workLength ≤ length (now work)) ⌝ }
     ensures { λ r. ⌜ Done (delivered (construct (readQuery (now (query .entry)))) (length (now (output .entry)))) (now (output .entry)) (now (output .exit)) r × (length (now (work .exit)) ≡ length (now (work .entry))) ⌝ }
 {
     let made = construction::construct(query, work);
@@ -56,12 +55,15 @@ fn construct_into(query: &[u8], work: &mut [u8], output: &mut [u8]) -> Built
     if refusal != PASSED {
         return refused(refusal);
     }
-    deliver(query, work, made.rows, output)
+    let p = query::produced(query);
+    let t = query::tested(query);
+    let s = query::sets(query);
+    deliver(work, made.rows, p, t, s, output)
 }
 
 // The same, and the work memory cleared behind it.
 fn construct_cleared(query: &[u8], work: &mut [u8], output: &mut [u8]) -> Built
-    requires { ⌜ (queryRefusal (now query) ≡ passed) × (scratchLength ≤ length (now work)) ⌝ }
+    requires { ⌜ (queryRefusal (now query) ≡ passed) × (workLength ≤ length (now work)) ⌝ }
     ensures { λ r. ⌜ Done (delivered (construct (readQuery (now (query .entry)))) (length (now (output .entry)))) (now (output .entry)) (now (output .exit)) r × (now (work .exit) ≡ zeroed (length (now (work .entry))) (now (work .entry))) ⌝ }
 {
     let built = construct_into(query, work, output);
@@ -71,7 +73,7 @@ fn construct_cleared(query: &[u8], work: &mut [u8], output: &mut [u8]) -> Built
 
 // Build the table of a query, whatever its bytes and whatever is lent: checks 1 to 6, then 9 for scratch, 8, and 9 for output.
 pub fn build(query: &[u8], scratch: &mut [u8], output: &mut [u8]) -> Built
-    ensures { λ r. ⌜ r ≡ answerOf (outcome (now (query .entry)) (length (now (scratch .entry))) (length (now (output .entry)))) ⌝ }
+    ensures { λ r. ⌜ r ≡ builtAnswer (outcome (now (query .entry)) (length (now (scratch .entry))) (length (now (output .entry)))) ⌝ }
     ensures { λ r. ⌜ now (output .exit) ≡ outputAfter (now (query .entry)) (length (now (scratch .entry))) (now (output .entry)) ⌝ }
     ensures { λ r. ⌜ now (scratch .exit) ≡ scratchAfter (now (query .entry)) (now (scratch .entry)) ⌝ }
 {

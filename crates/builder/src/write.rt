@@ -11,7 +11,7 @@ ghost use lib.ListN.{length};
 ghost use Rattle.theory.specs.Limits.{maxStates, maxProduced, maxSets, tableSizes, heldWidth};
 ghost use Rattle.theory.specs.Scratch.{workLength};
 ghost use Rattle.byte_rows.specs.Placed.{placed};
-ghost use Rattle.builder.specs.Written.{tableIn};
+ghost use Rattle.builder.specs.Written.{storedTable};
 
 // How many bytes a table of q states, p produced orders and s sets has.
 pub fn size(q: usize, p: u8, s: u8) -> usize
@@ -33,7 +33,7 @@ fn write_front(output: &mut [u8], q: u8, p: u8, t: u8, s: u8, starts: &[u8])
 // The whole table.
 pub fn write(work: &[u8], q: usize, p: u8, t: u8, s: u8, output: &mut [u8])
     requires { ⌜ (q ≤ maxStates) × (p ≤ maxProduced) × (s ≤ maxSets) × (workLength ≤ length (now work)) × (tableSizes + p + q * s + q * heldWidth ≤ length (now output)) ⌝ }
-    ensures { λ r. ⌜ now (output .exit) ≡ placed 0 (tableIn (now (work .entry)) q p t s) (now (output .entry)) ⌝ }
+    ensures { λ r. ⌜ now (output .exit) ≡ placed 0 (storedTable (now (work .entry)) q p t s) (now (output .entry)) ⌝ }
 {
     let produced = p as usize;
     let run = q * s as usize;

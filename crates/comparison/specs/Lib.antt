@@ -1,2 +1,2 @@
--- What the functions of this crate promise, beside the theory and the pairs.
+-- What the functions of this crate promise, beside the theory and the joint states.
 pub mod Alike

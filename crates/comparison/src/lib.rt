@@ -1,14 +1,14 @@
-// Whether two tables answer alike: what the two states of each pair that is reached together hold. Nothing is known of a query. Every function requires what its callers
+// Whether two tables answer alike: what the two states of each joint state that is reached together hold. Nothing is known of a query. Every function requires what its callers
 // have shown: none is an entry point.
 ghost use mathlib.Core.Path.{_≡_};
 ghost use Prim.Native.Nat.{_+_, _*_, _<_};
 ghost use lib.ListN.{length};
 ghost use Rattle.theory.specs.Tests.{Says};
 ghost use Rattle.theory.specs.Machine.{SameAnswers};
-ghost use Rattle.theory.specs.Limits.{maxStates, maxPairs};
-ghost use Rattle.theory.specs.Scratch.{pairsLength};
+ghost use Rattle.theory.specs.Limits.{maxStates, maxJointStates};
+ghost use Rattle.theory.specs.Scratch.{jointStatesLength};
 ghost use Rattle.theory.specs.Table.{statesIn, sizesIn, heldOrders, machineIn};
-ghost use Rattle.pairs.specs.Pairs.{Comparable, Walking};
+ghost use Rattle.joint_states.specs.JointStates.{Comparable, JointWalking};
 ghost use Rattle.comparison.specs.Alike.{AlikeFrom};
 use numbers::limits::MAX_STATES;
 
@@ -20,29 +20,29 @@ fn same_held(ours: &[u8], theirs: &[u8], x: usize, y: usize) -> bool
     table::held_word(ours, x) == table::held_word(theirs, y)
 }
 
-// Whether the states of pair i hold the same, if it is in the set.
-fn alike(ours: &[u8], theirs: &[u8], pairs: &[u8], i: usize) -> bool
-    requires { ⌜ Walking (now ours) (now theirs) (now pairs) × (i < maxPairs) ⌝ }
-    ensures { λ r. ⌜ Says (AlikeFrom (now (ours .entry)) (now (theirs .entry)) (now (pairs .entry)) i (i + 1)) r ⌝ }
+// Whether the states of joint state i hold the same, if it is in the set.
+fn alike(ours: &[u8], theirs: &[u8], reached: &[u8], i: usize) -> bool
+    requires { ⌜ JointWalking (now ours) (now theirs) (now reached) × (i < maxJointStates) ⌝ }
+    ensures { λ r. ⌜ Says (AlikeFrom (now (ours .entry)) (now (theirs .entry)) (now (reached .entry)) i (i + 1)) r ⌝ }
 {
-    if marks::marked(pairs, i) {
+    if bit_sets::has(reached, i) {
         same_held(ours, theirs, i / MAX_STATES, i % MAX_STATES)
     } else {
         true
     }
 }
 
-// The eight pairs of a byte.
-fn alike_byte(ours: &[u8], theirs: &[u8], pairs: &[u8], k: usize) -> bool
-    requires { ⌜ Walking (now ours) (now theirs) (now pairs) × (k < pairsLength) ⌝ }
-    ensures { λ r. ⌜ Says (AlikeFrom (now (ours .entry)) (now (theirs .entry)) (now (pairs .entry)) (8 * k) (8 * k + 8)) r ⌝ }
+// The eight joint states of a byte.
+fn alike_byte(ours: &[u8], theirs: &[u8], reached: &[u8], k: usize) -> bool
+    requires { ⌜ JointWalking (now ours) (now theirs) (now reached) × (k < jointStatesLength) ⌝ }
+    ensures { λ r. ⌜ Says (AlikeFrom (now (ours .entry)) (now (theirs .entry)) (now (reached .entry)) (8 * k) (8 * k + 8)) r ⌝ }
 {
-    if pairs[k] == 0 {
+    if reached[k] == 0 {
         return true;
     }
     let mut j = 0;
     while j < 8 {
-        if !alike(ours, theirs, pairs, 8 * k + j) {
+        if !alike(ours, theirs, reached, 8 * k + j) {
             return false;
         }
         j += 1;
@@ -50,15 +50,15 @@ fn alike_byte(ours: &[u8], theirs: &[u8], pairs: &[u8], k: usize) -> bool
     true
 }
 
-// All pairs of the set.
-fn all_alike(ours: &[u8], theirs: &[u8], pairs: &[u8]) -> bool
-    requires { ⌜ Walking (now ours) (now theirs) (now pairs) ⌝ }
-    ensures { λ r. ⌜ Says (AlikeFrom (now (ours .entry)) (now (theirs .entry)) (now (pairs .entry)) 0 (maxStates * statesIn (now (ours .entry)))) r ⌝ }
+// All joint states of the set.
+fn all_alike(ours: &[u8], theirs: &[u8], reached: &[u8]) -> bool
+    requires { ⌜ JointWalking (now ours) (now theirs) (now reached) ⌝ }
+    ensures { λ r. ⌜ Says (AlikeFrom (now (ours .entry)) (now (theirs .entry)) (now (reached .entry)) 0 (maxStates * statesIn (now (ours .entry)))) r ⌝ }
 {
     let n = MAX_STATES / 8 * table::states(ours);
     let mut k = 0;
     while k < n {
-        if !alike_byte(ours, theirs, pairs, k) {
+        if !alike_byte(ours, theirs, reached, k) {
             return false;
         }
         k += 1;
@@ -66,11 +66,11 @@ fn all_alike(ours: &[u8], theirs: &[u8], pairs: &[u8]) -> bool
     true
 }
 
-// Whether the two tables hold the same orders from every start and through every run of sets. The pairs are held in the memory that is lent for them, whatever it has.
-pub fn same_answers(ours: &[u8], theirs: &[u8], pairs: &mut [u8]) -> bool
-    requires { ⌜ Comparable (now ours) (now theirs) × (length (now pairs) ≡ pairsLength) ⌝ }
-    ensures { λ r. ⌜ Says (SameAnswers (sizesIn (now (ours .entry))) (machineIn (now (ours .entry))) (machineIn (now (theirs .entry)))) r × (length (now (pairs .exit)) ≡ length (now (pairs .entry))) ⌝ }
+// Whether the two tables hold the same orders from every start and through every run of sets. The joint states are held in the memory that is lent for them, whatever it has.
+pub fn same_answers(ours: &[u8], theirs: &[u8], reached: &mut [u8]) -> bool
+    requires { ⌜ Comparable (now ours) (now theirs) × (length (now reached) ≡ jointStatesLength) ⌝ }
+    ensures { λ r. ⌜ Says (SameAnswers (sizesIn (now (ours .entry))) (machineIn (now (ours .entry))) (machineIn (now (theirs .entry)))) r × (length (now (reached .exit)) ≡ length (now (reached .entry))) ⌝ }
 {
-    pairs::reach(ours, theirs, pairs);
-    all_alike(ours, theirs, pairs)
+    joint_states::reach(ours, theirs, reached);
+    all_alike(ours, theirs, reached)
 }

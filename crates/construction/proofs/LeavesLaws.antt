@@ -12,20 +12,22 @@ use Rattle.theory.specs.Refusals.{passed, states-refused}
 use Rattle.theory.specs.Orders.{Query, interesting}
 use Rattle.theory.specs.Choices.{rulesUnder}
 use Rattle.theory.specs.Settled.{isHeld}
-use Rattle.theory.specs.Construction.{heldUnder}
+use Rattle.theory.specs.Machine.{Sizes}
+use Rattle.theory.specs.Construction.{sizesOfQuery, heldUnder}
 use Rattle.theory.specs.Query.{Bytes, producedCount, testedCount, setCount, readQuery}
 use Rattle.theory.specs.Table.{Table}
-use Rattle.theory.specs.Scratch.{Stored}
+use Rattle.theory.specs.Scratch.{rowsTable, Stored}
 use Rattle.theory.specs.Build.{too-many, table, queryTable, construct, Constructs, many-states, its-table}
 use Rattle.theory.specs.Build as theory
 use Rattle.theory.proofs.Reflect.{says-ltb}
 use Rattle.theory.proofs.QueryLaws.{produced-count, tested-count, set-count}
 use Rattle.theory.proofs.BuildLaws.{construct-means}
 use Rattle.choices.specs.Words.{WordsAre}
-use Rattle.table_rows.specs.Rows.{rowsTable, RowsFound}
+use Rattle.table_rows.specs.Rows.{RowsFound}
+use Rattle.table_rows.specs.Walk.{sizesGiven}
 use Rattle.table_rows.proofs.WordTables.{rows-table}
 use Rattle.construction.specs.declared.Constructed.{Constructed}
-use Rattle.construction.specs.Constructed.{answerOf, counted, Leaves}
+use Rattle.construction.specs.Constructed.{constructedAnswer, counted, Leaves}
 
 -- the table that was constructed, or another
 contents : Table → theory.Constructed → Table
@@ -45,9 +47,9 @@ module _ (b work : Bytes) (words : WordsAre b work) where
   abbrev q : Query
   q = readQuery b
 
-  words-table : rowsTable (length (q .produced)) (length (q .tested)) (q .sets) work ≡ queryTable q
+  words-table : rowsTable (sizesOfQuery q) work ≡ queryTable q
   words-table =
-      rows-table (length (q .produced)) (length (q .tested)) (q .sets) work (λ p c. heldUnder q (getD (q .produced) p []) c)
+      rows-table (sizesOfQuery q) work (λ p c. heldUnder q (getD (q .produced) p []) c)
       (λ p c. length-map (interesting q) (λ o. isHeld (rulesUnder q c) (getD (q .produced) p []) o) ∙ length-append (q .produced) (q .tested))
       words
 
@@ -60,7 +62,7 @@ module _ (b work : Bytes) (words : WordsAre b work) where
   unfolding construct
   few h = ap (λ b. elim b as (λ (c : Bool). theory.Constructed) [ true ↦ too-many | false ↦ table (queryTable q) ]) (le-ltb maxStates (queryTable q .stateCount) h)
 
-  found-left : {after : Bytes} {r : ℕ} → RowsFound (length (q .produced)) (length (q .tested)) (q .sets) work after r → Leaves (construct q) after (counted r)
+  found-left : {after : Bytes} {r : ℕ} → RowsFound (sizesOfQuery q) work after r → Leaves (construct q) after (counted r)
   unfolding contents
   found-left {after} {r} found = go (says-ltb maxStates r)
     where
@@ -78,16 +80,16 @@ module _ (b work : Bytes) (words : WordsAre b work) where
             stored = λ t e. subst (λ k. Stored k after) (words-table ∙ ap (contents (queryTable q)) e) (fits .1);
           })
 
-  pub rows-left : {after : Bytes} {r p t s : ℕ} → p ≡ producedCount b → t ≡ testedCount b → s ≡ setCount b → RowsFound p t s work after r → Leaves (construct q) after (counted r)
+  pub rows-left : {after : Bytes} {r p t s : ℕ} → p ≡ producedCount b → t ≡ testedCount b → s ≡ setCount b → RowsFound (sizesGiven p t s) work after r → Leaves (construct q) after (counted r)
   rows-left {after} {r} {p} {t} {s} ep et es found =
       found-left
-      (subst (λ m. RowsFound (length (q .produced)) (length (q .tested)) m work after r) (es ∙ sym (set-count b))
-      (subst (λ m. RowsFound (length (q .produced)) m s work after r) (et ∙ sym (tested-count b)) (subst (λ m. RowsFound m t s work after r) (ep ∙ sym (produced-count b)) found)))
+      (subst (λ m. RowsFound (sizesGiven (length (q .produced)) (length (q .tested)) m) work after r) (es ∙ sym (set-count b))
+      (subst (λ m. RowsFound (sizesGiven (length (q .produced)) m s) work after r) (et ∙ sym (tested-count b)) (subst (λ m. RowsFound (sizesGiven m t s) work after r) (ep ∙ sym (produced-count b)) found)))
 
 -- where the answer has no refusal, there is a table
-constructed : {q : Query} {o : theory.Constructed} → Constructs q o → answerOf o .refusal ≡ passed → (t : Table) × (o ≡ table t)
+constructed : {q : Query} {o : theory.Constructed} → Constructs q o → constructedAnswer o .refusal ≡ passed → (t : Table) × (o ≡ table t)
 constructed (many-states _) e = absurd (omega arith)
 constructed (its-table _) e = (_, refl)
 
-pub granted-table : (b : Bytes) → answerOf (construct (readQuery b)) .refusal ≡ passed → (t : Table) × (construct (readQuery b) ≡ table t)
+pub granted-table : (b : Bytes) → constructedAnswer (construct (readQuery b)) .refusal ≡ passed → (t : Table) × (construct (readQuery b) ≡ table t)
 granted-table b = constructed (construct-means (readQuery b))

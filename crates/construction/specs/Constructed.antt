@@ -12,9 +12,9 @@ use Rattle.theory.specs.Build as theory
 use Rattle.construction.specs.declared.Constructed.{Constructed}
 
 -- The refusal, or 0; and the count of rows, which is 0 on refusal.
-abbrev pub answerOf : theory.Constructed → Constructed
-answerOf theory.too-many = record { refusal = states-refused; rows = 0 }
-answerOf (theory.table t) = record { refusal = passed; rows = t .stateCount }
+abbrev pub constructedAnswer : theory.Constructed → Constructed
+constructedAnswer theory.too-many = record { refusal = states-refused; rows = 0 }
+constructedAnswer (theory.table t) = record { refusal = passed; rows = t .stateCount }
 
 -- The answer from the count of rows.
 unfoldable pub counted : ℕ → Constructed
@@ -22,5 +22,5 @@ counted rows = pick (ltb maxStates rows) (record { refusal = states-refused; row
 
 -- The answer is that of what was constructed, and where that is a table, the scratch has its starts, its successors and its held words.
 pub record Leaves (o : theory.Constructed) (work : Bytes) (r : Constructed) : Type 0 where
-  pub answer : r ≡ answerOf o
+  pub answer : r ≡ constructedAnswer o
   pub stored : (t : Table) → o ≡ theory.table t → Stored t work

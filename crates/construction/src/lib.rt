@@ -5,9 +5,9 @@ use numbers::refusals::STATES;
 ghost use mathlib.Core.Path.{_≡_};
 ghost use Prim.Native.Nat.{_≤_};
 ghost use lib.ListN.{length};
-ghost use Rattle.theory.specs.Limits.{scratchLength};
 ghost use Rattle.theory.specs.Refusals.{passed};
 ghost use Rattle.theory.specs.Query.{readQuery, queryRefusal};
+ghost use Rattle.theory.specs.Scratch.{workLength};
 ghost use Rattle.theory.specs.Build.{construct};
 ghost use Rattle.construction.specs.Constructed.{Leaves, counted};
 
@@ -35,7 +35,7 @@ fn answer(rows: usize) -> Constructed
 
 // The held word of every pair of a produced order and a choice; then the rows: pairs that answer alike for every choice of further sets are one.
 pub fn construct(query: &[u8], work: &mut [u8]) -> Constructed
-    requires { ⌜ (queryRefusal (now query) ≡ passed) × (scratchLength ≤ length (now work)) ⌝ }
+    requires { ⌜ (queryRefusal (now query) ≡ passed) × (workLength ≤ length (now work)) ⌝ }
     ensures { λ r. ⌜ Leaves (construct (readQuery (now (query .entry)))) (now (work .exit)) r × (length (now (work .exit)) ≡ length (now (work .entry))) ⌝ }
 {
     choices::settle(query, work);

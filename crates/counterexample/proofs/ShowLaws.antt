@@ -10,7 +10,7 @@ use Rattle.theory.specs.Orders.{interesting}
 use Rattle.theory.specs.Choices.{rulesUnder, setsOf}
 use Rattle.theory.specs.Query.{Bytes, orderAt, readQuery}
 use Rattle.theory.specs.Table.{grant}
-use Rattle.theory.specs.Counterexamples.{Askable, standing, lookedFor, rulesChosen, Shows, none, pair}
+use Rattle.theory.specs.Counterexamples.{Askable, standing, lookedFor, rulesChosen, Shows, none, two-rows}
 use Rattle.theory.proofs.Reflect.{says-true, says-false}
 use Rattle.theory.proofs.ListLaws.{member-getD}
 use Rattle.theory.proofs.RangeLaws.{entry-of, entry-count}
@@ -61,7 +61,7 @@ module _ (b : Bytes) (produced sets order : ℕ) {rows : Bytes} (k : Askable b p
       let two = rowBy false settled class (readQuery b .columns) in
       subst (λ l. Shows b produced sets order rows (grant 1) l)
       (sym (wrote ∙ ap (λ m. placed 0 (rowBy true settled class m ++ rowBy false settled class m) rows) same ∙ both-first settled class (readQuery b .columns) rows))
-      (pair k (says-false (askable-exactly b produced sets order k .derived) (t .0)) one two
+      (two-rows k (says-false (askable-exactly b produced sets order k .derived) (t .0)) one two
       (t .1 (readQuery b .columns)
       (formed .orders (standing (readQuery b) produced) (Memᴰ·append-left (readQuery b .tested) (member-getD (readQuery b .produced) produced [] (k .named .entered))) .below)
       (formed .orders (lookedFor (readQuery b) order) (member-getD (interesting (readQuery b)) order [] (k .named .looked-for)) .below)

@@ -6,13 +6,13 @@ use Rattle.counterexample.specs.declared.Found.{Found}
 use Rattle.counterexample.specs.declared.Found.the-variants as found
 
 -- A pair is 1 and none is 0, or the refusal.
-abbrev pub answerOf : Found → Answer
-answerOf found.Pair = grant 1
-answerOf found.None = grant 0
-answerOf (found.Refused n) = refuse n
+abbrev pub foundAnswer : Found → Answer
+foundAnswer found.TwoRows = grant 1
+foundAnswer found.None = grant 0
+foundAnswer (found.Refused n) = refuse n
 
 -- A refusal's number is not 0, so that no refusal reads as "none".
-abbrev pub Listed : Found → Type 0
-Listed found.Pair = Unit
-Listed found.None = Unit
-Listed (found.Refused n) = n ≢ passed
+abbrev pub ListedFound : Found → Type 0
+ListedFound found.TwoRows = Unit
+ListedFound found.None = Unit
+ListedFound (found.Refused n) = n ≢ passed

@@ -13,11 +13,11 @@ ghost use Rattle.theory.specs.Query.{orderCount, orderAt, readQuery, queryRefus
 ghost use Rattle.theory.specs.Counterexamples.{Named, Askable, Shows};
 ghost use Rattle.settled.specs.Masks.{rulesAt};
 ghost use Rattle.settled.specs.Ends.{Ends};
-ghost use Rattle.counterexample.specs.Answers.{answerOf, Listed};
+ghost use Rattle.counterexample.specs.Answers.{foundAnswer, ListedFound};
 
 // Two rows were written, there are none, or the refusal.
 pub enum Found {
-    Pair,
+    TwoRows,
     None,
     Refused(u8),
 }
@@ -45,7 +45,7 @@ fn tested(query: &[u8], produced: u8, sets: u8, order: u8) -> Tested
     let mut right = [0u16; 32];
     let mut classes = [0u16; 16];
     let ready = test::prepare(query, sets, &mut left, &mut right, &mut classes);
-    let n = ready.pairs;
+    let n = ready.arrows;
     let start = ready.start;
     let p = query::order(query, produced);
     let o = query::order(query, order);
@@ -55,22 +55,22 @@ fn tested(query: &[u8], produced: u8, sets: u8, order: u8) -> Tested
 // Two rows where the test stops, and none where the order is held.
 fn show(query: &[u8], produced: u8, sets: u8, order: u8, rows: &mut [u8]) -> Found
     requires { ⌜ Askable (now query) produced sets order (now rows) ⌝ }
-    ensures { λ r. ⌜ Shows (now (query .entry)) produced sets order (now (rows .entry)) (answerOf r) (now (rows .exit)) × Listed r ⌝ }
+    ensures { λ r. ⌜ Shows (now (query .entry)) produced sets order (now (rows .entry)) (foundAnswer r) (now (rows .exit)) × ListedFound r ⌝ }
 {
     let n = query::columns(query) as usize;
     match tested(query, produced, sets, order) {
         Tested::Held => Found::None,
         Tested::Stopped { settled, class } => {
             rows::write(rows, n, settled, class);
-            Found::Pair
+            Found::TwoRows
         }
     }
 }
 
 // Whatever the query's bytes, the numbers and the buffer: the query's checks 1 to 6, 10, 9 for the buffer; then two rows, row after row, or none. Nothing else is written.
 pub fn find(query: &[u8], produced: u8, sets: u8, order: u8, rows: &mut [u8]) -> Found
-    ensures { λ r. ⌜ Shows (now (query .entry)) produced sets order (now (rows .entry)) (answerOf r) (now (rows .exit)) ⌝ }
-    ensures { λ r. ⌜ Listed r ⌝ }
+    ensures { λ r. ⌜ Shows (now (query .entry)) produced sets order (now (rows .entry)) (foundAnswer r) (now (rows .exit)) ⌝ }
+    ensures { λ r. ⌜ ListedFound r ⌝ }
 {
     let refusal = query_check::check(query);
     if refusal != refusals::PASSED {

@@ -14,20 +14,20 @@ use Rattle.lookup.specs.declared.HeldWord.{HeldWord}
 use Rattle.lookup.specs.declared.HeldWord.the-variants as held-word
 
 -- An entry or a take: the state that was moved to, or the refusal.
-abbrev pub answerOf : Moved → Answer
-answerOf (moved.To m) = grant (m .state .0)
-answerOf (moved.Refused n) = refuse n
+abbrev pub movedAnswer : Moved → Answer
+movedAnswer (moved.To m) = grant (m .state .0)
+movedAnswer (moved.Refused n) = refuse n
 
 -- An ask: held is 1 and not held is 0, or the refusal.
-abbrev pub heldOf : Asked → Answer
-heldOf asked.Held = grant 1
-heldOf asked.NotHeld = grant 0
-heldOf (asked.Refused n) = refuse n
+abbrev pub askedAnswer : Asked → Answer
+askedAnswer asked.Held = grant 1
+askedAnswer asked.NotHeld = grant 0
+askedAnswer (asked.Refused n) = refuse n
 
 -- A word: the word, or the refusal.
-abbrev pub wordOf : HeldWord → Answer
-wordOf (held-word.Word w) = grant w
-wordOf (held-word.Refused n) = refuse n
+abbrev pub wordAnswer : HeldWord → Answer
+wordAnswer (held-word.Word w) = grant w
+wordAnswer (held-word.Refused n) = refuse n
 
 -- An entry or a take is refused with 1, 2, 10 or 11, an ask or a word with 1, 2 or 10. None of these is 0, so that no refusal reads as a grant.
 abbrev pub MoveRefusal : ℕ → Type 0

@@ -5,7 +5,7 @@ ghost use mathlib.Core.Path.{_≡_};
 ghost use Prim.Native.Nat.{_/_, _<_, _≤_};
 ghost use Rattle.theory.specs.Table.{statesIn, enter, takeIn, ask, word, row, readRefusal};
 ghost use Rattle.table.specs.Form.{Formed};
-ghost use Rattle.lookup.specs.Answers.{refusalUnit, MoveRefusal, answerOf, heldOf, wordOf, ListedMove, ListedAsk, ListedWord, decoded};
+ghost use Rattle.lookup.specs.Answers.{refusalUnit, MoveRefusal, movedAnswer, askedAnswer, wordAnswer, ListedMove, ListedAsk, ListedWord, decoded};
 use numbers::limits;
 use numbers::refusals;
 use table::OrderHandle;
@@ -39,7 +39,7 @@ pub enum HeldWord {
 // The answer that a number of `codes` stands for: a state where it is below 65,536, else a refusal.
 fn decoded(code: u32) -> Moved
     requires { ⌜ (code < refusalUnit → code < 256) × (refusalUnit ≤ code → MoveRefusal (code / refusalUnit)) ⌝ }
-    ensures { λ r. ⌜ answerOf r ≡ decoded code ⌝ }
+    ensures { λ r. ⌜ movedAnswer r ≡ decoded code ⌝ }
     ensures { λ r. ⌜ ListedMove r ⌝ }
 {
     if code < limits::REFUSAL_UNIT {
@@ -53,7 +53,7 @@ fn decoded(code: u32) -> Moved
 
 // Enter by a produced order: 1, 2, 1, then 10, then 11.
 pub fn enter(table: &[u8], order: OrderHandle) -> Moved
-    ensures { λ r. ⌜ answerOf r ≡ enter (now (table .entry)) (order .0) ⌝ }
+    ensures { λ r. ⌜ movedAnswer r ≡ enter (now (table .entry)) (order .0) ⌝ }
     ensures { λ r. ⌜ ListedMove r ⌝ }
 {
     decoded(codes::enter(table, order))
@@ -77,7 +77,7 @@ fn read_refusal(table: &[u8], state: StateNumber) -> u8
 // An ask in a state of the table: 10 for an order that it does not have, else the order's bit of the state's word.
 fn ask_state(table: &[u8], state: usize, i: usize) -> Asked
     requires { ⌜ Formed (now table) × (state < statesIn (now table)) ⌝ }
-    ensures { λ r. ⌜ heldOf r ≡ ask (now (table .entry)) state i ⌝ }
+    ensures { λ r. ⌜ askedAnswer r ≡ ask (now (table .entry)) state i ⌝ }
     ensures { λ r. ⌜ ListedAsk r ⌝ }
 {
     if table::produced(table) + table::tested(table) <= i {
@@ -94,7 +94,7 @@ fn ask_state(table: &[u8], state: usize, i: usize) -> Asked
 impl Mark {
     // Take a set: 1, 2, 1, then 10, then 11.
     pub fn take(self, table: &[u8], set: SetHandle) -> Moved
-        ensures { λ r. ⌜ answerOf r ≡ takeIn (now (table .entry)) (self .state .0) (set .0) ⌝ }
+        ensures { λ r. ⌜ movedAnswer r ≡ takeIn (now (table .entry)) (self .state .0) (set .0) ⌝ }
         ensures { λ r. ⌜ ListedMove r ⌝ }
     {
         decoded(codes::take(table, self.state, set))
@@ -102,7 +102,7 @@ impl Mark {
 
     // Ask whether an interesting order is held: 1, 2, 1, then 10.
     pub fn ask(self, table: &[u8], order: OrderHandle) -> Asked
-        ensures { λ r. ⌜ heldOf r ≡ ask (now (table .entry)) (self .state .0) (order .0) ⌝ }
+        ensures { λ r. ⌜ askedAnswer r ≡ ask (now (table .entry)) (self .state .0) (order .0) ⌝ }
         ensures { λ r. ⌜ ListedAsk r ⌝ }
     {
         let refusal = read_refusal(table, self.state);
@@ -114,7 +114,7 @@ impl Mark {
 
     // Hand back the word, as it is in the table: 1, 2, 1, then 10.
     pub fn word(self, table: &[u8]) -> HeldWord
-        ensures { λ r. ⌜ wordOf r ≡ word (now (table .entry)) (self .state .0) ⌝ }
+        ensures { λ r. ⌜ wordAnswer r ≡ word (now (table .entry)) (self .state .0) ⌝ }
         ensures { λ r. ⌜ ListedWord r ⌝ }
     {
         let refusal = read_refusal(table, self.state);

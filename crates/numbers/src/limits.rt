@@ -11,9 +11,6 @@ pub const MAX_DEPENDENCIES: u8 = 16;
 
 pub const MAX_STATES: usize = 128;
 
-// Two tables have no more pairs of states than these.
-pub const MAX_PAIRS: usize = 16384;
-
 // An order has at most so many columns.
 pub const MAX_LENGTH: u8 = 4;
 

@@ -13,5 +13,5 @@ pub const STARTS_PART: usize = 5378;
 // For each pair a byte: the sets that change what it answers when they are taken; 2,048 at most.
 pub const OPEN_PART: usize = 5386;
 
-// Behind a build, in the first bytes: the pairs of states that are reached together, a bit for each of 128 times 128.
-pub const PAIRS_LENGTH: usize = 2048;
+// After a build, in the first bytes: the joint states of two tables that are reached, a bit for each of 128 times 128.
+pub const JOINT_STATES_LENGTH: usize = 2048;

@@ -13,15 +13,15 @@ use Rattle.theory.specs.Refusals.{passed, handle-refused, firstRefusal}
 use Rattle.theory.specs.Query.{Bytes, columnCount, readQuery, queryRefusal}
 use Rattle.theory.specs.Table.{Answer, refuse}
 use Rattle.theory.specs.Listing.{refusedLine}
-use Rattle.theory.specs.Counterexamples.{Named, Shows, query-refused, not-named, rows-short, none, pair}
+use Rattle.theory.specs.Counterexamples.{Named, Shows, query-refused, not-named, rows-short, none, two-rows}
 use Rattle.theory.proofs.Reflect.{says-eqb}
 use Rattle.theory.proofs.BitLaws.{low-bits}
 use Rattle.theory.proofs.QueryLaws.{SizesFit, query-sizes, column-count, produced-count, order-count, set-count}
-use Rattle.counterexample.specs.Answers.{answerOf, Listed}
+use Rattle.counterexample.specs.Answers.{foundAnswer, ListedFound}
 use Rattle.counterexample.specs.declared.Found.{Found}
 use Rattle.counterexample.specs.declared.Found.the-variants as found
 use Rattle.listing.specs.Text.{Printed}
-use Rattle.order_counterexample.specs.Evidence.{noneLine, pairText, answerText, largeLine, Small, Told, ToldOf}
+use Rattle.order_counterexample.specs.Evidence.{noneLine, rowsText, answerText, largeLine, Small, Told, ToldOf}
 
 -- where the answer is no refusal, the query passes its checks
 answer-checked : {query : Bytes} {p s o : ℕ} {room : Bytes} {a : Answer} {rows : Bytes} → Shows query p s o room a rows → a .refusal ≡ passed → queryRefusal query ≡ passed
@@ -29,15 +29,15 @@ answer-checked (query-refused h) e = e
 answer-checked (not-named k n) e = k
 answer-checked (rows-short k n l) e = k
 answer-checked (none a d) e = a .checked
-answer-checked (pair a d one two b) e = a .checked
+answer-checked (two-rows a d one two b) e = a .checked
 
 -- the text of a refusal
 pub refusal-text : (n : ℕ) (a : Answer) (rows : Bytes) → a .refusal ≢ passed → answerText n a rows ≡ refusedLine (a .refusal)
 refusal-text n a rows h = rw (ne-eqb (a .refusal) passed h)
 
 -- a pair is found in a query whose sizes are within their limits
-pub pair-sizes : (query : Bytes) {p s o : ℕ} {room rows : Bytes} (r : Found) → Shows query p s o room (answerOf r) rows → r ≡ found.Pair → SizesFit query
-pair-sizes query r shown e = query-sizes query (answer-checked shown (ap (λ f. answerOf f .refusal) e))
+pub rows-sizes : (query : Bytes) {p s o : ℕ} {room rows : Bytes} (r : Found) → Shows query p s o room (foundAnswer r) rows → r ≡ found.TwoRows → SizesFit query
+rows-sizes query r shown e = query-sizes query (answer-checked shown (ap (λ f. foundAnswer f .refusal) e))
 
 -- the numbers of a query are bytes
 named-small : (query : Bytes) {p s o : ℕ} → queryRefusal query ≡ passed → Named (readQuery query) p s o → Small p s o
@@ -51,26 +51,26 @@ named-small query {p} {s} {o} e n =
 
 module _ {before after : Bytes} {count : ℕ} where
   -- what was found
-  module _ (query : Bytes) {p s o : ℕ} (room : Bytes) {rows : Bytes} (r : Found) (enough : 2 * maxColumns ≤ length room) (shown : Shows query p s o room (answerOf r) rows) where
-    told-found : (f : Found) → r ≡ f → Printed before (answerText (readQuery query .columns) (answerOf f) rows) after count → Told query p s o before after count
+  module _ (query : Bytes) {p s o : ℕ} (room : Bytes) {rows : Bytes} (r : Found) (enough : 2 * maxColumns ≤ length room) (shown : Shows query p s o room (foundAnswer r) rows) where
+    told-found : (f : Found) → r ≡ f → Printed before (answerText (readQuery query .columns) (foundAnswer f) rows) after count → Told query p s o before after count
     told-found f e t =
         record {
           room = room;
           enough = enough;
-          answer = answerOf f;
+          answer = foundAnswer f;
           rows = rows;
-          shows = subst (λ x. Shows query p s o room (answerOf x) rows) e shown;
+          shows = subst (λ x. Shows query p s o room (foundAnswer x) rows) e shown;
           text = t;
         }
 
-    pub told-pair : (n : ℕ) → n ≡ columnCount query → r ≡ found.Pair → Printed before (pairText n rows) after count → Told query p s o before after count
-    told-pair n k e t = told-found found.Pair e (subst (λ m. Printed before (pairText m rows) after count) (k ∙ sym (column-count query)) t)
+    pub told-rows : (n : ℕ) → n ≡ columnCount query → r ≡ found.TwoRows → Printed before (rowsText n rows) after count → Told query p s o before after count
+    told-rows n k e t = told-found found.TwoRows e (subst (λ m. Printed before (rowsText m rows) after count) (k ∙ sym (column-count query)) t)
 
     pub told-none : r ≡ found.None → Printed before noneLine after count → Told query p s o before after count
     told-none e t = told-found found.None e t
 
-    pub told-refusal : (n : ℕ) → r ≡ found.Refused n → Listed r → Printed before (refusedLine n) after count → Told query p s o before after count
-    told-refusal n e l t = told-found (found.Refused n) e (rw (refusal-text (readQuery query .columns) (refuse n) rows (subst Listed e l)) t)
+    pub told-refusal : (n : ℕ) → r ≡ found.Refused n → ListedFound r → Printed before (refusedLine n) after count → Told query p s o before after count
+    told-refusal n e l t = told-found (found.Refused n) e (rw (refusal-text (readQuery query .columns) (refuse n) rows (subst ListedFound e l)) t)
 
   -- the query's own refusal
   pub told-refused : (query : Bytes) (p s o : ℕ) (room : Bytes) → 2 * maxColumns ≤ length room → queryRefusal query ≢ passed → Printed before (refusedLine (queryRefusal query)) after count

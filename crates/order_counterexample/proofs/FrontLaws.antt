@@ -14,7 +14,7 @@ use Rattle.theory.proofs.Reflect.{says-ltb}
 use Rattle.theory.proofs.TwoRows.{query-answered}
 use Rattle.query_check.proofs.FrontLaws.{query-front, long-unpassed}
 use Rattle.listing.specs.Text.{Printed}
-use Rattle.order_counterexample.specs.Evidence.{Told, ToldOf, Tells}
+use Rattle.order_counterexample.specs.Evidence.{Told, ToldOf, EvidencePrinted}
 use Rattle.order_counterexample.proofs.EvidenceLaws.{refusal-text, told-refused}
 
 module _ {before after : Bytes} {count : ℕ} where
@@ -34,7 +34,7 @@ module _ {before after : Bytes} {count : ℕ} where
       go (holds h) = told-front whole h t
       go (fails h) = subst (λ b. Told b p s o before after count) (take-all queryFront whole (omega arith)) t
 
-  pub tells : {query : Bytes} {produced sets order : ℕ} → count ≤ length before → ToldOf query produced sets order before after count → Tells query produced sets order before after count
+  pub tells : {query : Bytes} {produced sets order : ℕ} → count ≤ length before → ToldOf query produced sets order before after count → EvidencePrinted query produced sets order before after count
   tells {produced} {sets} {order} h t =
       record {
         fits = h;

@@ -10,7 +10,7 @@ use Rattle.theory.specs.Query.{Bytes, byteAt}
 use Rattle.theory.specs.Listing.{decimal, spaced, lineEnd}
 use Rattle.listing.specs.Text.{Wrote, Printed}
 use Rattle.listing.proofs.TextLaws.{wrote-as, wrote-on, wrote-first}
-use Rattle.order_counterexample.specs.Evidence.{rowLine, pairText}
+use Rattle.order_counterexample.specs.Evidence.{rowLine, rowsText}
 
 -- the first value and those behind it
 pub row-pieces : (row : Bytes) → 1 ≤ length row → decimal (byteAt row 0) ++ (flatten (map spaced (take (length row - 1) (drop 1 row))) ++ lineEnd) ≡ rowLine row
@@ -28,8 +28,8 @@ module _ (n : ℕ) (rows : Bytes) (fits : n + n ≤ length rows) where
   pub second-length : length (take (n + n - n) (drop n rows)) ≡ n
   second-length = simp (length-take, length-drop) (omega arith)
 
-  pub pair-wrote : {text mid after : Bytes} {p r a b : ℕ} → Wrote text 0 (rowLine (take n rows)) a mid p → Wrote mid p (rowLine (take (n + n - n) (drop n rows))) b after r
-      → Printed text (pairText n rows) after r
-  pair-wrote {b = b} v w =
+  pub rows-wrote : {text mid after : Bytes} {p r a b : ℕ} → Wrote text 0 (rowLine (take n rows)) a mid p → Wrote mid p (rowLine (take (n + n - n) (drop n rows))) b after r
+      → Printed text (rowsText n rows) after r
+  rows-wrote {b = b} v w =
       let same : n + n - n ≡ n = omega arith in
       wrote-first (wrote-on v (wrote-as (ap (λ k. rowLine (take k (drop n rows))) same) (le-refl b) w))

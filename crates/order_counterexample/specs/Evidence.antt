@@ -15,8 +15,8 @@ use Rattle.decimal.specs.Words.{largeNumber}
 use Rattle.listing.specs.Text.{Printed}
 
 -- The longest pair: two lines of 12 values, each of three digits and a space or the end of the line.
-abbrev pub longestPair : ℕ
-longestPair = 96
+abbrev pub longestRows : ℕ
+longestRows = 96
 
 -- "none" and the end of the line.
 abbrev pub noneLine : Bytes
@@ -28,12 +28,12 @@ rowLine [] = lineEnd
 rowLine (v ∷ vs) = decimal v ++ (flatten (map spaced vs) ++ lineEnd)
 
 -- A pair of rows of n values each, which are the first bytes, row after row.
-abbrev pub pairText : ℕ → Bytes → Bytes
-pairText n rows = rowLine (take n rows) ++ rowLine (take n (drop n rows))
+abbrev pub rowsText : ℕ → Bytes → Bytes
+rowsText n rows = rowLine (take n rows) ++ rowLine (take n (drop n rows))
 
 -- An answer for n columns: "none" is value 0 and a pair any other, or the refusal.
 abbrev pub answerText : ℕ → Answer → Bytes → Bytes
-answerText n a rows = pick (eqb (a .refusal) passed) (pick (eqb (a .value) 0) noneLine (pairText n rows)) (refusedLine (a .refusal))
+answerText n a rows = pick (eqb (a .refusal) passed) (pick (eqb (a .value) 0) noneLine (rowsText n rows)) (refusedLine (a .refusal))
 
 -- The answer where a number is larger than any in the query.
 abbrev pub largeLine : Bytes → Bytes
@@ -46,8 +46,8 @@ pub record Small (produced sets order : ℕ) : Type 0 where
   pub order-small : order < largeNumber
 
 -- A number as it was read means the number n: it is n, and 256 where n is 256 or more.
-abbrev pub Means : ℕ → ℕ → Type 0
-Means read n = read ≡ min n largeNumber
+abbrev pub ReadAs : ℕ → ℕ → Type 0
+ReadAs read n = read ≡ min n largeNumber
 
 -- What is answered to a query and three numbers, with room for every pair of rows, is what the text begins with.
 pub record Told (query : Bytes) (produced sets order : ℕ) (before after : Bytes) (count : ℕ) : Type 0 where
@@ -61,10 +61,10 @@ pub record Told (query : Bytes) (produced sets order : ℕ) (before after : Byte
 -- The same of all numbers that those which were read mean.
 abbrev pub ToldOf : Bytes → ℕ → ℕ → ℕ → Bytes → Bytes → ℕ → Type 0
 ToldOf query produced sets order before after count =
-    (p s o : ℕ) → Means produced p → Means sets s → Means order o → Told query p s o before after count
+    (p s o : ℕ) → ReadAs produced p → ReadAs sets s → ReadAs order o → Told query p s o before after count
 
 -- So it is for these bytes, and for every query whose first bytes they are; and the text has room, whatever the numbers.
-pub record Tells (query : Bytes) (produced sets order : ℕ) (before after : Bytes) (count : ℕ) : Type 0 where
+pub record EvidencePrinted (query : Bytes) (produced sets order : ℕ) (before after : Bytes) (count : ℕ) : Type 0 where
   pub fits : count ≤ length before
   pub own : ToldOf query produced sets order before after count
   pub longer : (whole : Bytes) → take queryFront whole ≡ query → ToldOf whole produced sets order before after count

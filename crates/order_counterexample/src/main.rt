@@ -20,19 +20,19 @@ ghost use lib.ListN.{length};
 ghost use Rattle.theory.specs.Tests.{Says};
 ghost use Rattle.theory.specs.Limits.{maxColumns};
 ghost use Rattle.listing.specs.Text.{longestRefusal, Wrote, Printed};
-ghost use Rattle.order_counterexample.specs.Evidence.{longestPair, noneLine, rowLine, pairText, largeLine, Small, Told, Tells};
+ghost use Rattle.order_counterexample.specs.Evidence.{longestRows, noneLine, rowLine, rowsText, largeLine, Small, Told, EvidencePrinted};
 
 // Two rows of 12 columns, and the longest text of a pair.
-const PAIR_ROOM: usize = 24;
+const ROWS_ROOM: usize = 24;
 
-const LONGEST_PAIR: usize = 96;
+const LONGEST_ROWS: usize = 96;
 
 // Linux passes no longer argument.
 const LONGEST_WORD: usize = 131072;
 
 // The line that says that there is no such pair; how many bytes of the text it takes.
 fn none(text: &mut [u8]) -> usize
-    requires { ⌜ longestPair ≤ length (now text) ⌝ }
+    requires { ⌜ longestRows ≤ length (now text) ⌝ }
     ensures { λ r. ⌜ Printed (now (text .entry)) noneLine (now (text .exit)) r ⌝ }
 {
     text::word(text, 0, b"none\n")
@@ -49,9 +49,9 @@ fn row_line(row: &[u8], text: &mut [u8], at: usize) -> usize
 }
 
 // The two lines of a pair of rows of n values.
-fn pair(rows: &[u8], n: usize, text: &mut [u8]) -> usize
-    requires { ⌜ (1 ≤ n) × (n ≤ maxColumns) × (2 * n ≤ length (now rows)) × (longestPair ≤ length (now text)) ⌝ }
-    ensures { λ r. ⌜ Printed (now (text .entry)) (pairText n (now (rows .entry))) (now (text .exit)) r ⌝ }
+fn two_rows(rows: &[u8], n: usize, text: &mut [u8]) -> usize
+    requires { ⌜ (1 ≤ n) × (n ≤ maxColumns) × (2 * n ≤ length (now rows)) × (longestRows ≤ length (now text)) ⌝ }
+    ensures { λ r. ⌜ Printed (now (text .entry)) (rowsText n (now (rows .entry))) (now (text .exit)) r ⌝ }
 {
     let second = row_line(&rows[..n], text, 0);
     let end = n + n;
@@ -85,12 +85,12 @@ fn large(query: &[u8], text: &mut [u8]) -> usize
 
 // What is answered to a query and three bytes.
 fn evidence(query: &[u8], produced: u8, sets: u8, order: u8, text: &mut [u8]) -> usize
-    requires { ⌜ longestPair ≤ length (now text) ⌝ }
+    requires { ⌜ longestRows ≤ length (now text) ⌝ }
     ensures { λ r. ⌜ Told (now (query .entry)) produced sets order (now (text .entry)) (now (text .exit)) r ⌝ }
 {
-    let mut rows = [0u8; PAIR_ROOM];
+    let mut rows = [0u8; ROWS_ROOM];
     match find(query, produced, sets, order, &mut rows) {
-        Found::Pair => pair(&rows, query::columns(query) as usize, text),
+        Found::TwoRows => two_rows(&rows, query::columns(query) as usize, text),
         Found::None => none(text),
         Found::Refused(n) => refused(n, text),
     }
@@ -98,8 +98,8 @@ fn evidence(query: &[u8], produced: u8, sets: u8, order: u8, text: &mut [u8]) ->
 
 // What is answered to a query, of which its first 256 bytes are given, and three numbers as they were read; how many bytes of the text it takes.
 fn answer(query: &[u8], produced: u16, sets: u16, order: u16, text: &mut [u8]) -> usize
-    requires { ⌜ longestPair ≤ length (now text) ⌝ }
-    ensures { λ r. ⌜ Tells (now (query .entry)) produced sets order (now (text .entry)) (now (text .exit)) r ⌝ }
+    requires { ⌜ longestRows ≤ length (now text) ⌝ }
+    ensures { λ r. ⌜ EvidencePrinted (now (query .entry)) produced sets order (now (text .entry)) (now (text .exit)) r ⌝ }
 {
     if small(produced, sets, order) {
         return evidence(query, produced as u8, sets as u8, order as u8, text);
@@ -109,7 +109,7 @@ fn answer(query: &[u8], produced: u16, sets: u16, order: u16, text: &mut [u8]) -
 
 // Prints the answer, and says whether all of it was written.
 fn print(query: &[u8], produced: u16, sets: u16, order: u16) -> bool {
-    let mut text = [0u8; LONGEST_PAIR];
+    let mut text = [0u8; LONGEST_ROWS];
     let length = answer(query, produced, sets, order, &mut text);
     io::write_all(STDOUT_FILENO, &text[..length])
 }

@@ -11,7 +11,7 @@ use Rattle.theory.specs.Refusals.{passed}
 use Rattle.theory.specs.Query.{Bytes}
 use Rattle.theory.specs.Build.{Outcome, refused, built}
 use Rattle.theory.specs.Listing.{listing}
-use Rattle.query_listing.specs.Listed.{answerOf, listRefusal}
+use Rattle.query_listing.specs.Listed.{listedAnswer, listRefusal}
 use Rattle.theory.specs.Counterexamples.{Shows}
 use Rattle.theory.specs.Table.{Answer, refuse, setsIn, successorsBase, readRefusal}
 use Rattle.lookup.specs.Answers.{refusalUnit, answerCode}
@@ -27,7 +27,7 @@ buildCode (built t) = length t
 
 -- A listing's: its length, or the refusal.
 abbrev pub listCode : Bytes → ℕ → ℕ → ℕ
-listCode query scratch text = let a = answerOf (listing query) (listRefusal query scratch text) in a .refusal * refusalUnit + a .length
+listCode query scratch text = let a = listedAnswer (listing query) (listRefusal query scratch text) in a .refusal * refusalUnit + a .length
 
 -- A row's answer: its offset in the table, or the refusal.
 unfoldable pub rowCode : Bytes → ℕ → ℕ

@@ -23,8 +23,8 @@ ghost use Rattle.theory.specs.Build.{outcome, outputAfter, scratchAfter};
 ghost use Rattle.theory.specs.Verification.{verifyRefusal};
 ghost use lib.ListN.{length};
 ghost use Rattle.orders.specs.Orders.{orderOf, ruleIs};
-ghost use Rattle.lookup.specs.Answers.{heldOf, refusalUnit, answerCode};
-ghost use Rattle.counterexample.specs.Answers.{answerOf};
+ghost use Rattle.lookup.specs.Answers.{askedAnswer, refusalUnit, answerCode};
+ghost use Rattle.counterexample.specs.Answers.{foundAnswer};
 ghost use Rattle.theory.specs.Listing.{listing};
 ghost use Rattle.replay.specs.Replay.{lookupsAfter, Modelled};
 ghost use Rattle.query_listing.specs.Listed.{listRefusal, textAfter};
@@ -32,7 +32,7 @@ ghost use Rattle.order_tables.specs.Codes.{refusedCode, buildCode, listC
 
 // An ask: 1 held, 0 not held, or the refusal.
 fn asked(answer: Asked) -> u32
-    ensures { λ r. ⌜ r ≡ answerCode (heldOf answer) ⌝ }
+    ensures { λ r. ⌜ r ≡ answerCode (askedAnswer answer) ⌝ }
 {
     match answer {
         Asked::Held => 1,
@@ -164,10 +164,10 @@ pub extern "C" fn order_table_row(table: &[u8], state: u8) -> u32
 
 // A search for two rows: 1 where they were written, 0 where there are none, or the refusal.
 fn found(answer: Found) -> u32
-    ensures { λ r. ⌜ r ≡ answerCode (answerOf answer) ⌝ }
+    ensures { λ r. ⌜ r ≡ answerCode (foundAnswer answer) ⌝ }
 {
     match answer {
-        Found::Pair => 1,
+        Found::TwoRows => 1,
         Found::None => 0,
         Found::Refused(n) => codes::refused(n),
     }

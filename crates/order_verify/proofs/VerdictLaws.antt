@@ -6,10 +6,10 @@ use Rattle.theory.specs.Query.{Bytes}
 use Rattle.theory.specs.Verification.{verifyRefusal}
 use Rattle.listing.specs.Text.{Printed}
 use Rattle.verify.proofs.FrontLaws.{verify-front}
-use Rattle.order_verify.specs.Verdict.{verdictLine, Decides}
+use Rattle.order_verify.specs.Verdict.{verdictLine, VerdictPrinted}
 
 pub decides : (query t : Bytes) {before after : Bytes} {scratch n r : ℕ} → scratch ≡ scratchLength → r ≡ verifyRefusal query t scratch → Printed before (verdictLine r) after n
-    → Decides query t before after n
+    → VerdictPrinted query t before after n
 decides query t {before} {after} {n = n} enough e p =
     let own = subst (λ k. Printed before (verdictLine k) after n) (e ∙ ap (verifyRefusal query t) enough) p in
     record {

@@ -21,7 +21,7 @@ abbrev pub verdictLine : ℕ → Bytes
 verdictLine n = pick (eqb n passed) acceptedLine (refusedLine n)
 
 -- The text begins with the line of the outcome for these bytes, and with that for every query and every table whose first bytes they are.
-pub record Decides (query t before after : Bytes) (count : ℕ) : Type 0 where
+pub record VerdictPrinted (query t before after : Bytes) (count : ℕ) : Type 0 where
   pub own : Printed before (verdictLine (verifyRefusal query t scratchLength)) after count
   pub longer : (wholeQuery wholeTable : Bytes) → take queryFront wholeQuery ≡ query → take tableFront wholeTable ≡ t
       → Printed before (verdictLine (verifyRefusal wholeQuery wholeTable scratchLength)) after count

@@ -15,7 +15,7 @@ use numbers::refusals::PASSED;
 ghost use Prim.Native.Nat.{_≤_};
 ghost use lib.ListN.{length};
 ghost use Rattle.listing.specs.Text.{longestRefusal, Printed};
-ghost use Rattle.order_verify.specs.Verdict.{acceptedLine, verdictLine, Decides};
+ghost use Rattle.order_verify.specs.Verdict.{acceptedLine, verdictLine, VerdictPrinted};
 
 // The line of an accepted table; how many bytes of the text it takes.
 fn accepted(text: &mut [u8]) -> usize
@@ -41,7 +41,7 @@ fn verdict(refusal: u8, text: &mut [u8]) -> usize
 // The line of a trial's outcome, where the first 256 bytes of the query and the first 1,293 of the table are given.
 fn answer(query: &[u8], table: &[u8], text: &mut [u8]) -> usize
     requires { ⌜ longestRefusal ≤ length (now text) ⌝ }
-    ensures { λ r. ⌜ Decides (now (query .entry)) (now (table .entry)) (now (text .entry)) (now (text .exit)) r ⌝ }
+    ensures { λ r. ⌜ VerdictPrinted (now (query .entry)) (now (table .entry)) (now (text .entry)) (now (text .exit)) r ⌝ }
 {
     let mut scratch = [0u8; SCRATCH_LENGTH];
     let refusal = verify::verify(query, table, &mut scratch);

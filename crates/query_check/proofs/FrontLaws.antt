@@ -13,11 +13,11 @@ use Rattle.theory.specs.Refusals.{passed, length-refused, size-refused}
 use Rattle.theory.specs.Query.{Bytes, byteAt, outside, sizesRefusal, queryRefusal}
 use Rattle.theory.proofs.RefusalLaws.{pick-alike, neither, or-passed}
 use Rattle.theory.proofs.QueryLaws.{sizes-fit}
-use Rattle.query_check.specs.Sizes.{refusalOfSizes}
+use Rattle.query_check.specs.Sizes.{querySizesRefusal}
 
 -- no sizes imply as many as 166 bytes: all numbers of bytes from there on are refused alike
-sizes-long : (x y n p t s d : ℕ) → 166 ≤ x → 166 ≤ y → refusalOfSizes x n p t s d ≡ refusalOfSizes y n p t s d
-unfolding refusalOfSizes
+sizes-long : (x y n p t s d : ℕ) → 166 ≤ x → 166 ≤ y → querySizesRefusal x n p t s d ≡ querySizesRefusal y n p t s d
+unfolding querySizesRefusal
 sizes-long x y n p t s d hx hy =
     rw (le-ltb x 5 (omega arith), le-ltb y 5 (omega arith))
     (pick-alike (outside 1 12 n) size-refused
@@ -35,7 +35,7 @@ module _ (b : Bytes) (h : 166 ≤ length b) where
   front-long = rw length-take (omega arith)
 
   sizes-front : sizesRefusal (take queryFront b) ≡ sizesRefusal b
-  unfolding sizesRefusal refusalOfSizes
+  unfolding sizesRefusal querySizesRefusal
   sizes-front =
       rw (getD-take queryFront b 0 0 (omega arith), getD-take queryFront b 1 0 (omega arith), getD-take queryFront b 2 0 (omega arith), getD-take queryFront b 3 0 (omega arith), getD-take queryFront b 4 0 (omega arith))
       (sizes-long (length (take queryFront b)) (length b) (byteAt b 0) (byteAt b 1) (byteAt b 2) (byteAt b 3) (byteAt b 4) front-long h)

@@ -6,8 +6,8 @@ use Rattle.theory.specs.Limits.{maxColumns, maxProduced, maxTested, maxSets, ma
 use Rattle.theory.specs.Refusals.{passed, length-refused, size-refused}
 use Rattle.theory.specs.Query.{outside}
 
-unfoldable pub refusalOfSizes : (len n p t s d : ℕ) → ℕ
-refusalOfSizes len n p t s d =
+unfoldable pub querySizesRefusal : (len n p t s d : ℕ) → ℕ
+querySizesRefusal len n p t s d =
     pick (ltb len querySizes) length-refused
     (pick (outside 1 maxColumns n) size-refused
     (pick (outside 1 maxProduced p) size-refused

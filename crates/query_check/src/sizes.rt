@@ -5,7 +5,7 @@ ghost use mathlib.Core.Path.{_≡_};
 ghost use Prim.Native.Nat.{_+_, _*_};
 ghost use Rattle.theory.specs.Query.{outside, sizesRefusal};
 ghost use Rattle.theory.specs.Limits.{querySizes, itemWidth};
-ghost use Rattle.query_check.specs.Sizes.{refusalOfSizes};
+ghost use Rattle.query_check.specs.Sizes.{querySizesRefusal};
 
 // Whether a size is outside its limits.
 fn outside(low: u8, high: u8, n: u8) -> bool
@@ -23,7 +23,7 @@ fn implied(p: u8, t: u8, d: u8) -> usize
 
 // The outcome, from the length and the sizes N, P, T, S, D.
 fn sized(len: usize, n: u8, p: u8, t: u8, s: u8, d: u8) -> u8
-    ensures { λ r. ⌜ r ≡ refusalOfSizes len n p t s d ⌝ }
+    ensures { λ r. ⌜ r ≡ querySizesRefusal len n p t s d ⌝ }
 {
     if len < limits::QUERY_SIZES {
         return refusals::LENGTH;

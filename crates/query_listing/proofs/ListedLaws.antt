@@ -13,11 +13,11 @@ use Rattle.theory.specs.Refusals.{passed, space-refused}
 use Rattle.theory.specs.Query.{Bytes, queryRefusal}
 use Rattle.theory.specs.Build.{scratchAfter, zeroed}
 use Rattle.theory.specs.Listing.{listing}
-use Rattle.query_listing.specs.Listed.{listRefusal, answerOf, textAfter, Handed}
+use Rattle.query_listing.specs.Listed.{listRefusal, listedAnswer, textAfter, Handed}
 use Rattle.query_listing.specs.declared.Listed.{Listed}
 
 module _ (l text : Bytes) {n : ℕ} (e : length l ≡ n) where
-  pub text-short : length text < n → {r : Listed} → r ≡ answerOf [] space-refused → Handed l text text r
+  pub text-short : length text < n → {r : Listed} → r ≡ listedAnswer [] space-refused → Handed l text text r
   unfolding textAfter
   text-short h a =
       let f = lt-ltb (length text) (length l) (omega arith) in
@@ -33,7 +33,7 @@ module _ (l text : Bytes) {n : ℕ} (e : length l ≡ n) where
 module _ (query scratch text : Bytes) where
   abbrev pub Whole : (scratch' text' : Bytes) → Listed → Type 0
   Whole scratch' text' r =
-      (r ≡ answerOf (listing query) (listRefusal query (length scratch) (length text)))
+      (r ≡ listedAnswer (listing query) (listRefusal query (length scratch) (length text)))
       × ((text' ≡ textAfter (listing query) (listRefusal query (length scratch) (length text)) text) × (scratch' ≡ scratchAfter query scratch))
 
   pub query-refused : {text' : Bytes} {r : Listed} → queryRefusal query ≢ passed → Handed (listing query) text text' r → Whole scratch text' r
@@ -41,7 +41,7 @@ module _ (query scratch text : Bytes) where
   query-refused h d = let e = ne-eqb (queryRefusal query) passed h in (rw (e, listRefusal) (d .answer), (rw (e, listRefusal) (d .text), rw (e, scratchAfter)))
 
   module _ (c : queryRefusal query ≡ passed) where
-    pub scratch-short : length scratch < scratchLength → {r : Listed} → r ≡ answerOf [] space-refused → Whole scratch text r
+    pub scratch-short : length scratch < scratchLength → {r : Listed} → r ≡ listedAnswer [] space-refused → Whole scratch text r
     unfolding listRefusal textAfter scratchAfter
     scratch-short h a =
         let e = eq-eqb (queryRefusal query) passed c in

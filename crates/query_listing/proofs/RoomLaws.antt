@@ -13,7 +13,7 @@ use Rattle.theory.specs.Refusals.{passed}
 use Rattle.theory.specs.Query.{Bytes, queryRefusal}
 use Rattle.theory.specs.Listing.{listing}
 use Rattle.listing.specs.Text.{longestListing}
-use Rattle.query_listing.specs.Listed.{listRefusal, answerOf, textAfter, Listing}
+use Rattle.query_listing.specs.Listed.{listRefusal, listedAnswer, textAfter, Listing}
 use Rattle.query_listing.specs.declared.Listed.{Listed}
 use Rattle.query_listing.proofs.LengthLaws.{listing-short}
 
@@ -28,7 +28,7 @@ module _ (query text : Bytes) (n : ℕ) (s : scratchLength ≤ n) (t : longestLi
   unfolding listRefusal
   room = rw (le-ltb n scratchLength s, listRefusal, and-false (eqb (queryRefusal query) passed), le-ltb (length text) (length (listing query)) (omega (arith, listing-short query)))
 
-  pub room-listed : {after : Bytes} {r : Listed} → r ≡ answerOf (listing query) (listRefusal query n (length text)) →
+  pub room-listed : {after : Bytes} {r : Listed} → r ≡ listedAnswer (listing query) (listRefusal query n (length text)) →
       after ≡ textAfter (listing query) (listRefusal query n (length text)) text → Listing (listing query) after (r .length)
   unfolding textAfter
   room-listed {after} {r} a e =

@@ -17,12 +17,12 @@ use Rattle.byte_rows.proofs.PlacedLaws.{placed-length}
 use Rattle.table.specs.Form.{Formed}
 use Rattle.listing.specs.Text.{Printed}
 use Rattle.query_listing.specs.Listed.{Listing}
-use Rattle.builder.specs.Built.{answerOf}
+use Rattle.builder.specs.Built.{builtAnswer}
 use Rattle.builder.proofs.AnswerLaws.{granted, built-formed}
 use Rattle.builder.specs.declared.Built as answer
 
 -- the line of a refusal
-refused-line : (o : Outcome) → answerOf o .refusal ≢ passed → refusedLine (answerOf o .refusal) ≡ listed o
+refused-line : (o : Outcome) → builtAnswer o .refusal ≢ passed → refusedLine (builtAnswer o .refusal) ≡ listed o
 refused-line (refused n) h = refl
 refused-line (built t) h = absurd (h refl)
 
@@ -41,14 +41,14 @@ pub record Shown (query after : Bytes) (r : answer.Built) : Type 0 where
 abbrev room : Bytes
 room = replicate longestTable 0
 
-module _ (query work : Bytes) (w : length work ≡ scratchLength) {r : answer.Built} (a : r ≡ answerOf (outcome query (length work) (length room))) where
+module _ (query work : Bytes) (w : length work ≡ scratchLength) {r : answer.Built} (a : r ≡ builtAnswer (outcome query (length work) (length room))) where
   abbrev o : Outcome
   o = outcome query scratchLength longestTable
 
-  answer-is : r ≡ answerOf o
+  answer-is : r ≡ builtAnswer o
   answer-is = rw w at a
 
-  refusal-is : r .refusal ≡ answerOf o .refusal
+  refusal-is : r .refusal ≡ builtAnswer o .refusal
   refusal-is = ap (λ (x : answer.Built). x .refusal) answer-is
 
   -- with a refusal, the listing is its line ..
@@ -64,7 +64,7 @@ module _ (query work : Bytes) (w : length work ≡ scratchLength) {r : answer.Bu
       go : (t : Bytes) × (o ≡ built t) → Shown query after r
       go (t, e) =
           let b = built-facts query scratchLength longestTable t e in
-          let x : r ≡ answerOf (built t) = answer-is ∙ ap answerOf e in
+          let x : r ≡ builtAnswer (built t) = answer-is ∙ ap builtAnswer e in
           let y : after ≡ t ++ drop (length t) room = (rw w at f) ∙ ap (λ p. written p room) e in
           let d : take (r .length) after ≡ t = ap₂ take (ap (λ (x : answer.Built). x .length) x) y ∙ take-at t (drop (length t) room) (length t) refl in
           record {

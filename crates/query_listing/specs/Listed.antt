@@ -22,8 +22,8 @@ listRefusal query scratch textLength =
     pick (eqb (queryRefusal query) passed && ltb scratch scratchLength) space-refused (textRefusal (listing query) textLength)
 
 -- The answer for a listing: the refusal, or 0; and the listing's length, which is 0 on refusal.
-abbrev pub answerOf : Bytes → ℕ → Listed
-answerOf l refusal = record { refusal = refusal; length = pick (eqb refusal passed) (length l) 0 }
+abbrev pub listedAnswer : Bytes → ℕ → Listed
+listedAnswer l refusal = record { refusal = refusal; length = pick (eqb refusal passed) (length l) 0 }
 
 -- The text keeps its bytes on refusal; otherwise its first bytes are the listing and the rest keep theirs.
 unfoldable pub textAfter : Bytes → ℕ → Bytes → Bytes
@@ -37,5 +37,5 @@ pub record Listing (l memory : Bytes) (count : ℕ) : Type 0 where
 
 -- A listing handed over into the text: the answer, and the text afterwards.
 pub record Handed (l before after : Bytes) (r : Listed) : Type 0 where
-  pub answer : r ≡ answerOf l (textRefusal l (length before))
+  pub answer : r ≡ listedAnswer l (textRefusal l (length before))
   pub text : after ≡ textAfter l (textRefusal l (length before)) before

@@ -12,7 +12,7 @@ ghost use Rattle.theory.specs.Limits.{scratchLength};
 ghost use Rattle.theory.specs.Refusals.{space-refused};
 ghost use Rattle.theory.specs.Build.{scratchAfter, zeroed};
 ghost use Rattle.theory.specs.Listing.{refusedLine, listing};
-ghost use Rattle.query_listing.specs.Listed.{listRefusal, answerOf, textAfter, Handed, Listing};
+ghost use Rattle.query_listing.specs.Listed.{listRefusal, listedAnswer, textAfter, Handed, Listing};
 
 // What a listing answers: the refusal, or 0; and the listing's length, which is 0 on refusal.
 pub struct Listed {
@@ -22,7 +22,7 @@ pub struct Listed {
 
 // A lent buffer is too short.
 fn no_room() -> Listed
-    ensures { λ r. ⌜ r ≡ answerOf [] space-refused ⌝ }
+    ensures { λ r. ⌜ r ≡ listedAnswer [] space-refused ⌝ }
 {
     Listed {
         refusal: SPACE,
@@ -83,7 +83,7 @@ fn list_cleared(query: &[u8], work: &mut [u8], text: &mut [u8]) -> Listed
 // List a query, whatever its bytes and whatever is lent: checks 1 to 6, whose line is the listing, then 9 for scratch, then 8, whose line is the listing,
 // and 9 for a text shorter than what is to be printed.
 pub fn list(query: &[u8], scratch: &mut [u8], text: &mut [u8]) -> Listed
-    ensures { λ r. ⌜ r ≡ answerOf (listing (now (query .entry))) (listRefusal (now (query .entry)) (length (now (scratch .entry))) (length (now (text .entry)))) ⌝ }
+    ensures { λ r. ⌜ r ≡ listedAnswer (listing (now (query .entry))) (listRefusal (now (query .entry)) (length (now (scratch .entry))) (length (now (text .entry)))) ⌝ }
     ensures { λ r. ⌜ now (text .exit) ≡ textAfter (listing (now (query .entry))) (listRefusal (now (query .entry)) (length (now (scratch .entry))) (length (now (text .entry)))) (now (text .entry)) ⌝ }
     ensures { λ r. ⌜ now (scratch .exit) ≡ scratchAfter (now (query .entry)) (now (scratch .entry)) ⌝ }
 {

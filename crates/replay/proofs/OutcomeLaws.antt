@@ -10,20 +10,20 @@ use Rattle.theory.specs.Query.{Bytes}
 use Rattle.theory.specs.Build.{Outcome, refused, built, outcome, written, outputAfter}
 use Rattle.theory.proofs.DemandThree.{demand-three}
 use Rattle.builder.specs.declared.Built.{Built}
-use Rattle.builder.specs.Built.{answerOf}
+use Rattle.builder.specs.Built.{builtAnswer}
 use Rattle.builder.proofs.AnswerLaws.{granted}
 use Rattle.replay.specs.Replay.{replayed, lookupsAfter, Modelled}
 use Rattle.replay.proofs.ReplayLaws.{answers-run}
 
 -- A refused build keeps the lookups' bytes.
-kept : (o : Outcome) (lookups : Bytes) → answerOf o .refusal ≢ passed → lookups ≡ lookupsAfter o lookups
+kept : (o : Outcome) (lookups : Bytes) → builtAnswer o .refusal ≢ passed → lookups ≡ lookupsAfter o lookups
 kept (refused n) lookups h = refl
 kept (built t) lookups h = absurd (h refl)
 
 -- The table of an unrefused build is the output's first bytes.
 record TableFirst (o : Outcome) (output : Bytes) : Type 0 where
-  pub room : answerOf o .length ≤ length (written o output)
-  pub replays : (lookups : Bytes) → replayed (take (answerOf o .length) (written o output)) 0 lookups ≡ lookupsAfter o lookups
+  pub room : builtAnswer o .length ≤ length (written o output)
+  pub replays : (lookups : Bytes) → replayed (take (builtAnswer o .length) (written o output)) 0 lookups ≡ lookupsAfter o lookups
 
 table-first : {o : Outcome} (output : Bytes) → (t : Bytes) × (o ≡ built t) → TableFirst o output
 table-first output (t, e) =
@@ -41,7 +41,7 @@ modelled query scratch output before k =
     }
 
 -- What a caller of the builder knows of the table, from the answer r and the output afterwards.
-module _ (query : Bytes) (scratch : ℕ) (output : Bytes) {r : Built} (e : r ≡ answerOf (outcome query scratch (length output))) where
+module _ (query : Bytes) (scratch : ℕ) (output : Bytes) {r : Built} (e : r ≡ builtAnswer (outcome query scratch (length output))) where
   pub lookups-kept : (lookups : Bytes) → r .refusal ≢ passed → lookups ≡ lookupsAfter (outcome query scratch (length output)) lookups
   lookups-kept lookups h = kept (outcome query scratch (length output)) lookups (rw e at h)
 

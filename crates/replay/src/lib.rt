@@ -4,8 +4,8 @@ ghost use Prim.Native.Nat.{_+_, _<_};
 ghost use lib.ListN.{length};
 ghost use Rattle.theory.specs.Build.{outcome, outputAfter, scratchAfter};
 ghost use Rattle.theory.specs.Lookups.{passOn};
-ghost use Rattle.builder.specs.Built as built;
-ghost use Rattle.lookup.specs.Answers.{answerOf, heldOf, ListedMove};
+ghost use Rattle.builder.specs.Built.{builtAnswer};
+ghost use Rattle.lookup.specs.Answers.{movedAnswer, askedAnswer, ListedMove};
 ghost use Rattle.replay.specs.Replay.{lookupOf, answerTo, stateAfter, replayed, lookupsAfter, Modelled};
 ghost use Rattle.replay.specs.Answered.{Gives, lookupAt, answeredAt};
 use builder::Built;
@@ -27,7 +27,7 @@ struct Answered {
 // An entry or a take: where it is granted its mark goes on, else the mark before it.
 fn moved(answer: Moved, before: Mark) -> Answered
     requires { ⌜ ListedMove answer ⌝ }
-    ensures { λ r. ⌜ Gives (answerOf answer) (passOn (answerOf answer) (before .state .0)) r ⌝ }
+    ensures { λ r. ⌜ Gives (movedAnswer answer) (passOn (movedAnswer answer) (before .state .0)) r ⌝ }
 {
     match answer {
         Moved::To(next) => Answered {
@@ -45,7 +45,7 @@ fn moved(answer: Moved, before: Mark) -> Answered
 
 // An ask: the mark stays.
 fn asked(answer: Asked, mark: Mark) -> Answered
-    ensures { λ r. ⌜ Gives (heldOf answer) (mark .state .0) r ⌝ }
+    ensures { λ r. ⌜ Gives (askedAnswer answer) (mark .state .0) r ⌝ }
 {
     match answer {
         Asked::Held => Answered {
@@ -107,7 +107,7 @@ fn run(table: &[u8], lookups: &mut [u8])
 
 // Build a query's table, whatever the bytes and whatever is lent, and answer the lookups on the table that was written.
 pub fn replay(query: &[u8], scratch: &mut [u8], output: &mut [u8], lookups: &mut [u8]) -> Built
-    ensures { λ r. ⌜ r ≡ built.answerOf (outcome (now (query .entry)) (length (now (scratch .entry))) (length (now (output .entry)))) ⌝ }
+    ensures { λ r. ⌜ r ≡ builtAnswer (outcome (now (query .entry)) (length (now (scratch .entry))) (length (now (output .entry)))) ⌝ }
     ensures { λ r. ⌜ now (output .exit) ≡ outputAfter (now (query .entry)) (length (now (scratch .entry))) (now (output .entry)) ⌝ }
     ensures { λ r. ⌜ now (scratch .exit) ≡ scratchAfter (now (query .entry)) (now (scratch .entry)) ⌝ }
     ensures { λ r. ⌜ now (lookups .exit) ≡ lookupsAfter (outcome (now (query .entry)) (length (now (scratch .entry))) (length (now (output .entry)))) (now (lookups .entry)) ⌝ }

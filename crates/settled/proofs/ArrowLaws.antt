@@ -1,4 +1,4 @@
--- Rules as arrows and arrows as pairs of masks: pairs written one after the other, the rules for which they stand, and the arrows in force.
+-- Rules as arrows and arrows as masks: arrows written one after the other, the rules for which they stand, and the arrows in force.
 use Prim.Native.Nat.{ℕ, zero, suc, _+_, _/_, _%_, _^_, _<_, _≤_}
 use native.Mathlib.Nat.{add-zero, add-suc}
 use native.Mathlib.Omega.{arith}
@@ -20,12 +20,12 @@ use Rattle.theory.proofs.ListLaws.{member-getD, getD-member, member-flatten-map
 use Rattle.theory.proofs.RowLaws.{all-cons}
 use Rattle.theory.proofs.ChoiceNumbers.{bits-entry}
 use Rattle.theory.proofs.PassedLaws.{Passed}
-use Rattle.settled.specs.Masks.{Narrow, Closed, StandFor, rulesAt}
-use Rattle.settled.specs.Parts.{MaskOf, Sound, Arrow, arrow, arrows, arrowsAt, listed, PairIs, Written, Adding}
+use Rattle.settled.specs.Masks.{Narrow, ClosedMask, StandFor, rulesAt}
+use Rattle.settled.specs.Arrows.{MaskOf, Sound, Arrow, arrow, arrows, arrowsAt, isListed, ArrowIs, Written, Adding}
 
--- no pair, and one more
+-- no arrow, and one more
 pub written-none : (left right : List ℕ) → Written [] left right 0
-written-none left right = record { many = refl; pairs = λ i h. absurd (omega arith) }
+written-none left right = record { many = refl; masks = λ i h. absurd (omega arith) }
 
 module _ {xs : List Arrow} {left right : List ℕ} {n : ℕ} (a : Arrow) (f t : ℕ) where
   written-more : Written xs left right n → n < length left → n < length right → MaskOf (a .from) f → MaskOf (a .to ∷ []) t
@@ -33,15 +33,15 @@ module _ {xs : List Arrow} {left right : List ℕ} {n : ℕ} (a : Arrow) (f t : 
   written-more w l r mf mt =
       record {
         many = length-append xs (a ∷ []) ∙ omega (arith, w .many);
-        pairs = λ i h. go i h (says-eqb i n);
+        masks = λ i h. go i h (says-eqb i n);
       }
     where
-      go : (i : ℕ) → i < n + 1 → {b : Bool} → Says (i ≡ n) b → PairIs (getD (xs ++ (a ∷ [])) i (arrow [] 0)) (set left n f) (set right n t) i
+      go : (i : ℕ) → i < n + 1 → {b : Bool} → Says (i ≡ n) b → ArrowIs (getD (xs ++ (a ∷ [])) i (arrow [] 0)) (set left n f) (set right n t) i
       go i h (holds e) =
           rw (e, getD-at xs a [] (arrow [] 0) n (w .many), getD-set-same left n f 0 l, getD-set-same right n t 0 r) (mf, mt)
       go i h (fails e) =
           rw (List·getD-append xs (a ∷ []) (arrow [] 0) i (omega (arith, w .many)), getD-set-other left n i f 0 e, getD-set-other right n i t 0 e)
-          (w .pairs i (omega arith))
+          (w .masks i (omega arith))
 
 -- no arrow, one, and several after others
 module _ (left right : List ℕ) (n : ℕ) where
@@ -85,8 +85,8 @@ listed-arrows false false true a c l r = refl
 listed-arrows false force false a c l r = refl
 
 pub listed-at : (only : Bool) (b : Bytes) (x i : ℕ)
-    → arrowsAt only b x i ≡ pick (listed only x (headAt b (orderCount b + i))) (arrows false (dependencyAt b (orderCount b + i) .rule)) []
-unfolding listed
+    → arrowsAt only b x i ≡ pick (isListed only x (headAt b (orderCount b + i))) (arrows false (dependencyAt b (orderCount b + i) .rule)) []
+unfolding isListed
 listed-at only b x i =
     let head = headAt b (orderCount b + i) in
     let body = bodyAt b (orderCount b + i) in
@@ -103,12 +103,12 @@ rule-settles {rs} {w} (equal c d) i =
     all-cons {P = Settles rs w} (λ h. equalled (inl i) (h c (List·Memᴰ·head refl)))
     (all-cons {P = Settles rs w} (λ h. equalled (inr i) (h d (List·Memᴰ·head refl))) (λ b k. absurd (List·Memᴰ·not-nil k)))
 
--- pairs that are the arrows of the rules stand for them
+-- arrows that are the arrows of the rules stand for them
 module _ {rs : List Rule} {left right : List ℕ} {n : ℕ} (v : Written (flatten (map (arrows false) rs)) left right n) where
-  pairs-sound : (i : ℕ) → i < n → (w : List ℕ) → Sound rs w (getD left i 0) → Sound rs w (getD right i 0)
-  pairs-sound i h w s c k =
+  arrows-sound : (i : ℕ) → i < n → (w : List ℕ) → Sound rs w (getD left i 0) → Sound rs w (getD right i 0)
+  arrows-sound i h w s c k =
       let a = getD (flatten (map (arrows false) rs)) i (arrow [] 0) in
-      let p = v .pairs i h in
+      let p = v .masks i h in
       let m = member-flatten-map (arrows false) rs (member-getD (flatten (map (arrows false) rs)) i (arrow [] 0) (omega (arith, v .many))) in
       subst (Settled rs w) (sym (List·Memᴰ·eq-of-singleton (says-true (p .1 c) k))) (rule-settles (m .0) (m .1) a (m .2) (λ d j. s d (true-says (p .0 d) j)))
 
@@ -117,11 +117,11 @@ module _ {rs : List Rule} {left right : List ℕ} {n : ℕ} (v : Written (flatte
     arrow-closed {a} x i j h =
         let t = getD-member (arrow [] 0) (flatten-map-member (arrows false) i j) in
         let b : t .0 < n = omega (arith, t .1, v .many) in
-        let p : PairIs a left right (t .0) = subst (λ (y : Arrow). PairIs y left right (t .0)) (t .2) (v .pairs (t .0) b) in
+        let p : ArrowIs a left right (t .0) = subst (λ (y : Arrow). ArrowIs y left right (t .0)) (t .2) (v .masks (t .0) b) in
         none (t .0) b (λ c k. h c (says-true (p .0 c) k)) (a .to) (true-says (p .1 (a .to)) (List·Memᴰ·head refl))
 
-    pairs-closed : Closed rs m
-    pairs-closed =
+    arrows-closed : ClosedMask rs m
+    arrows-closed =
         record {
           fixes = λ l r i h. arrow-closed (fix l r) i (List·Memᴰ·head refl) h;
           equals = λ a b s h.
@@ -131,7 +131,7 @@ module _ {rs : List Rule} {left right : List ℕ} {n : ℕ} (v : Written (flatte
         }
 
   pub written-stands : StandFor rs left right n
-  written-stands = record { sound = pairs-sound; complete = pairs-closed }
+  written-stands = record { sound = arrows-sound; complete = arrows-closed }
 
 -- the arrows of the equals alone
 pub only-equals : (rs : List Rule) → flatten (map (arrows true) rs) ≡ flatten (map (arrows false) (those isEqual rs))

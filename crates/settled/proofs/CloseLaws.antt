@@ -15,11 +15,11 @@ use Rattle.theory.specs.Settled.{Settled, among, fixed, equalled, isEqual}
 use Rattle.theory.proofs.Reflect.{says-eqb, says-true, true-says, says-one}
 use Rattle.theory.proofs.SettledLaws.{says-settled}
 use Rattle.theory.proofs.BitLaws.{or-keeps, or-only, or-more, or-inside, inside-or}
-use Rattle.settled.specs.Masks.{Closed, StandFor, SettledMask, ClassesOf}
-use Rattle.settled.specs.Parts.{used, pass, Sound, Closes}
+use Rattle.settled.specs.Masks.{ClosedMask, StandFor, SettledMask, ClassesOf}
+use Rattle.settled.specs.Arrows.{used, pass, Sound, Closes}
 use Rattle.settled.proofs.MaskLaws.{says-both, mask-one}
 
--- one pair: it adds no more than its right columns, and these only to a mask that has the left ones
+-- one arrow: it adds no more than its right columns, and these only to a mask that has the left ones
 module _ (l r m : ℕ) where
   used-more : m ≤ used l r m
   used-more = go (says-eqb (bitOr m l) m)
@@ -66,7 +66,7 @@ module _ (left right : List ℕ) where
       let before = pass-sound n (λ i k. gives i (omega arith)) m s in
       ⊎-elim (before c) (λ t. gives n (omega arith) w (λ d k. before d (t .0 d k)) c (t .1)) (used-only (getD left n 0) (getD right n 0) (pass left right n m) c h)
 
-  -- where it adds nothing, no pair does
+  -- where it adds nothing, no arrow does
   pass-closed : (n m : ℕ) → pass left right n m ≡ m → (i : ℕ) → i < n → Inside (getD left i 0) m → Inside (getD right i 0) m
   pass-closed zero m e i h = absurd (not-suc-le-zero h)
   pass-closed (suc n) m e i h =
@@ -79,7 +79,7 @@ module _ (left right : List ℕ) where
       go same rest (fails k) = rest (omega arith)
 
 -- a closed mask that has w has all that w settles
-closed-has : {rs : List Rule} {w : List ℕ} {m : ℕ} → Closed rs m → ((c : ℕ) → List·Memᴰ c w → inMask m c ≡ true) → {c : ℕ} → Settled rs w c → inMask m c ≡ true
+closed-has : {rs : List Rule} {w : List ℕ} {m : ℕ} → ClosedMask rs m → ((c : ℕ) → List·Memᴰ c w → inMask m c ≡ true) → {c : ℕ} → Settled rs w c → inMask m c ≡ true
 closed-has k h (among i) = h _ i
 closed-has k h (fixed {l} {r} i f) = k .fixes l r i (λ c j. closed-has k h (f c j))
 closed-has k h (equalled {a} {b} s t) = k .equals a b s (closed-has k h t)

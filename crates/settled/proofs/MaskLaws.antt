@@ -18,7 +18,7 @@ use Rattle.theory.proofs.RangeLaws.{take-more}
 use Rattle.theory.proofs.PassedLaws.{query-passed}
 use Rattle.theory.proofs.BitLaws.{raised-has, raised-keeps, raised-only}
 use Rattle.settled.specs.Masks.{Narrow}
-use Rattle.settled.specs.Parts.{MaskOf}
+use Rattle.settled.specs.Arrows.{MaskOf}
 
 -- a test that is passed exactly where P holds
 pub says-both : {P : Type 0} (b : Bool) → (b ≡ true → P) → (P → b ≡ true) → Says P b

@@ -20,12 +20,12 @@ use Rattle.theory.proofs.Picks.{pick-yes}
 use Rattle.theory.proofs.BitLaws.{raised-has, raised-keeps, raised-only}
 use Rattle.theory.proofs.RangeLaws.{map-below}
 use Rattle.theory.proofs.SettledLaws.{settled-through, says-settled}
-use Rattle.theory.proofs.CounterexampleLaws.{Past, past-none, past-more, past-both, past-front, past-met, value, row, stop-at, stop-pair}
+use Rattle.theory.proofs.CounterexampleLaws.{Past, past-none, past-more, past-both, past-front, past-met, value, row, stop-at, stop-rows}
 use Rattle.settled.specs.declared.Tested.{Tested}
 use Rattle.settled.specs.declared.Tested.the-variants as tested
 use Rattle.settled.specs.Masks.{StandFor, SettledMask, ClassesOf, Prepared}
 use Rattle.settled.specs.Ends.{valueIn, rowBy, Ends}
-use Rattle.settled.specs.Parts.{Skipped, meets, Closes}
+use Rattle.settled.specs.Arrows.{Skipped, meets, Closes}
 use Rattle.settled.proofs.MaskLaws.{says-both, mask-none}
 
 -- one column more behind the first i of an order
@@ -190,7 +190,7 @@ module _ (rs : List Rule) (p o : Order) where
         testing-meets false e,
         λ n pn on small.
             rows-masks n rs (columns (take i o)) (getD o i 0) m (getD classes (getD o i 0) 0) (λ d. sym (mask-tells m (t .mask) d)) (λ d. classed (getD o i 0) d narrow)
-            (stop-pair n rs p o pn on small (columns (take i o)) (getD o i 0) (stop-at rs p (drop j p) o i h (t .past) (entry-meets (λ rest. true) false e))),
+            (stop-rows n rs p o pn on small (columns (take i o)) (getD o i 0) (stop-at rs p (drop j p) o i h (t .past) (entry-meets (λ rest. true) false e))),
       )
 
   -- several are

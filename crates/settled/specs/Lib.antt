@@ -1,4 +1,4 @@
 -- What the functions of this crate promise, beside the theory.
 pub mod Masks
-pub mod Parts
+pub mod Arrows
 pub mod Ends

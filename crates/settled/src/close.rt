@@ -1,10 +1,10 @@
-// Closing a mask under pairs of masks: where it has all columns of a pair's left one, it gets those of the right one.
+// Closing a mask under arrows: where it has all columns of an arrow's left one, it gets those of the right one.
 ghost use mathlib.Core.Path.{_≡_};
 ghost use Prim.Native.Nat.{_≤_};
 ghost use lib.ListN.{length};
-ghost use Rattle.settled.specs.Parts.{used, pass, Closes};
+ghost use Rattle.settled.specs.Arrows.{used, pass, Closes};
 
-// One pair is used.
+// One arrow is used.
 fn used(left: u16, right: u16, mask: u16) -> u16
     ensures { λ r. ⌜ r ≡ used left right mask ⌝ }
 {
@@ -15,7 +15,7 @@ fn used(left: u16, right: u16, mask: u16) -> u16
     }
 }
 
-// The first n pairs are used, one after the other.
+// The first n arrows are used, one after the other.
 fn pass(left: &[u16], right: &[u16], n: usize, mask: u16) -> u16
     requires { ⌜ (n ≤ length (now left)) × (n ≤ length (now right)) ⌝ }
     ensures { λ r. ⌜ r ≡ pass (now (left .entry)) (now (right .entry)) n mask ⌝ }
@@ -29,7 +29,7 @@ fn pass(left: &[u16], right: &[u16], n: usize, mask: u16) -> u16
     all
 }
 
-// All that the first n pairs give from the mask: passes, until one adds nothing.
+// All that the first n arrows give from the mask: passes, until one adds nothing.
 pub fn close(left: &[u16], right: &[u16], n: usize, mask: u16) -> u16
     requires { ⌜ (n ≤ length (now left)) × (n ≤ length (now right)) ⌝ }
     ensures { λ r. ⌜ Closes (now (left .entry)) (now (right .entry)) n mask r ⌝ }

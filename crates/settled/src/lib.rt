@@ -1,14 +1,14 @@
-// The closure test: whether an order is held, on sets of columns as masks and rules as pairs of masks.
+// The closure test: whether an order is held, on sets of columns as masks and rules as arrows between masks.
+mod arrows;
 mod close;
 mod masks;
-mod pairs;
 pub mod test;
 
 pub use masks::has;
 
-// What the test is given beside the masks themselves: how many pairs of masks there are, and the columns that are settled from the start, before any entry.
+// What the test is given beside the masks themselves: how many arrows there are, and the columns that are settled from the start, before any entry.
 pub struct Ready {
-    pub pairs: usize,
+    pub arrows: usize,
     pub start: u16,
 }
 

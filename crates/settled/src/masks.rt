@@ -5,7 +5,7 @@ ghost use Prim.Native.Nat.{_<_, _^_};
 ghost use Rattle.theory.specs.Tests.{inMask};
 ghost use Rattle.orders.specs.Orders.{orderOf};
 ghost use Rattle.settled.specs.Masks.{Narrow};
-ghost use Rattle.settled.specs.Parts.{MaskOf};
+ghost use Rattle.settled.specs.Arrows.{MaskOf};
 
 // Whether the mask has a column.
 pub fn has(mask: u16, c: u8) -> bool

@@ -1,9 +1,9 @@
-// The closure test. It reads the pairs, the mask at the start and the classes alone, no query, and closes a mask once for each entry that is used up but the last.
+// The closure test. It reads the arrows, the mask at the start and the classes alone, no query, and closes a mask once for each entry that is used up but the last.
 use crate::Ready;
 use crate::Tested;
+use crate::arrows;
 use crate::close;
 use crate::masks;
-use crate::pairs;
 use orders::Order;
 ghost use mathlib.Core.Path.{_≡_};
 ghost use mathlib.Core.List.{List};
@@ -16,7 +16,7 @@ ghost use Rattle.theory.specs.Settled.{isHeld};
 ghost use Rattle.orders.specs.Orders.{orderOf};
 ghost use Rattle.settled.specs.Masks.{Narrow, Prepared, rulesAt};
 ghost use Rattle.settled.specs.Ends.{Ends};
-ghost use Rattle.settled.specs.Parts.{Skipped, meets};
+ghost use Rattle.settled.specs.Arrows.{Skipped, meets};
 
 // The first place from one on where the order has a column that the mask does not have; the length where there is none.
 fn unsettled(o: Order, from: usize, mask: u16) -> usize
@@ -55,12 +55,12 @@ pub fn prepare(
     classes: &mut [u16],
 ) -> Ready
     requires { ⌜ (queryRefusal (now query) ≡ passed) × (length (now left) ≡ 32) × (length (now right) ≡ 32) × (length (now classes) ≡ 16) ⌝ }
-    ensures { λ r. ⌜ Prepared (rulesAt (now (query .entry)) x) (now (left .exit)) (now (right .exit)) (r .pairs) (r .start) (now (classes .exit)) × (r .pairs ≤ 32) × (length (now (left .exit)) ≡ 32) × (length (now (right .exit)) ≡ 32) × (length (now (classes .exit)) ≡ 16) ⌝ }
+    ensures { λ r. ⌜ Prepared (rulesAt (now (query .entry)) x) (now (left .exit)) (now (right .exit)) (r .arrows) (r .start) (now (classes .exit)) × (r .arrows ≤ 32) × (length (now (left .exit)) ≡ 32) × (length (now (right .exit)) ≡ 32) × (length (now (classes .exit)) ≡ 16) ⌝ }
 {
-    pairs::classes(query, x, left, right, classes);
-    let pairs = pairs::rules(query, x, left, right);
-    let start = close::close(left, right, pairs, 0);
-    Ready { pairs, start }
+    arrows::classes(query, x, left, right, classes);
+    let arrows = arrows::rules(query, x, left, right);
+    let start = close::close(left, right, arrows, 0);
+    Ready { arrows, start }
 }
 
 // The test of order o against the produced order p. An entry of o that is settled by those before it is passed over; any other uses up the first entry of what is left of p

@@ -14,15 +14,15 @@ use Rattle.theory.specs.Limits.{maxStates, maxProduced, maxTested, maxSets, tab
 use Rattle.theory.specs.Refusals.{passed}
 use Rattle.theory.specs.Table.{statesIn, producedIn, testedIn, setsIn, successorsBase, tableLength, formRefusal, startsRefusal, successorsRefusal}
 use Rattle.theory.proofs.Reflect.{says-false, says-or, says-ltb}
-use Rattle.table.specs.Form.{Formed, refusalOfSizes, runRefusal}
+use Rattle.table.specs.Form.{Formed, tableSizesRefusal, runRefusal}
 
 -- the product of two bytes
 pub byte-product : (a b : ℕ) → a < 256 → b < 256 → a * b ≤ 65025
 byte-product a b h k = mul-le-mul (le-of-suc-le-suc h) (le-of-suc-le-suc k)
 
 -- past the first check, the form is decided by the sizes and the number of bytes
-pub form-sizes : (t : Bytes) → tableSizes ≤ length t → refusalOfSizes (statesIn t) (producedIn t) (testedIn t) (setsIn t) (length t) ≡ formRefusal t
-unfolding formRefusal refusalOfSizes
+pub form-sizes : (t : Bytes) → tableSizes ≤ length t → tableSizesRefusal (statesIn t) (producedIn t) (testedIn t) (setsIn t) (length t) ≡ formRefusal t
+unfolding formRefusal tableSizesRefusal
 form-sizes t h = rw (le-ltb (length t) tableSizes h)
 
 -- a check that comes before others passes, and so do they

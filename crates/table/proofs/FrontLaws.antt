@@ -16,12 +16,12 @@ use Rattle.theory.specs.Query.{Bytes, outside}
 use Rattle.theory.specs.Table.{statesIn, producedIn, testedIn, setsIn, formRefusal, tableRefusal}
 use Rattle.theory.proofs.Reflect.{says-ltb}
 use Rattle.theory.proofs.RefusalLaws.{pick-alike, neither, or-passed}
-use Rattle.table.specs.Form.{refusalOfSizes}
+use Rattle.table.specs.Form.{tableSizesRefusal}
 use Rattle.table.proofs.FormLaws.{form-sizes, formed, formed-short}
 
 -- no sizes imply more bytes than the longest table has: all numbers of bytes from there on are refused alike
-sizes-long : (q p t s x y : ℕ) → longestTable < x → longestTable < y → refusalOfSizes q p t s x ≡ refusalOfSizes q p t s y
-unfolding refusalOfSizes
+sizes-long : (q p t s x y : ℕ) → longestTable < x → longestTable < y → tableSizesRefusal q p t s x ≡ tableSizesRefusal q p t s y
+unfolding tableSizesRefusal
 sizes-long q p t s x y hx hy =
     pick-alike (outside 1 maxStates q) size-refused
     (λ eq. pick-alike (outside 1 maxProduced p) size-refused

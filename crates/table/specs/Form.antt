@@ -21,8 +21,8 @@ pub record Formed (t : Bytes) : Type 0 where
   pub total : length t ≡ tableLength t
 
 -- The checks 2 and 1 on the sizes Q, P, T, S and the number of bytes.
-unfoldable pub refusalOfSizes : ℕ → ℕ → ℕ → ℕ → ℕ → ℕ
-refusalOfSizes q p t s total =
+unfoldable pub tableSizesRefusal : ℕ → ℕ → ℕ → ℕ → ℕ → ℕ
+tableSizesRefusal q p t s total =
     pick (outside 1 maxStates q) size-refused
     (pick (outside 1 maxProduced p) size-refused
     (pick (ltb maxTested t) size-refused

@@ -3,7 +3,7 @@ ghost use mathlib.Core.Path.{_≡_};
 ghost use Prim.Native.Nat.{_+_, _*_, _<_};
 ghost use Rattle.theory.specs.Limits.{tableSizes};
 ghost use Rattle.theory.specs.Table.{statesIn, producedIn, testedIn, setsIn, successorsBase, heldBase, formRefusal};
-ghost use Rattle.table.specs.Form.{refusalOfSizes};
+ghost use Rattle.table.specs.Form.{tableSizesRefusal};
 use byte_rows::byte;
 use numbers::limits;
 use numbers::refusals;
@@ -56,7 +56,7 @@ fn past_successors(q: usize, p: usize, s: usize) -> usize
 
 // The checks 2 and 1 on the sizes and the number of bytes: a size outside its limits; a total other than the sizes imply.
 fn sizes_refusal(q: usize, p: usize, t: usize, s: usize, total: usize) -> u8
-    ensures { λ r. ⌜ r ≡ refusalOfSizes q p t s total ⌝ }
+    ensures { λ r. ⌜ r ≡ tableSizesRefusal q p t s total ⌝ }
 {
     if q < 1 {
         return refusals::SIZE;

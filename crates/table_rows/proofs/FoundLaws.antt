@@ -11,13 +11,13 @@ use Rattle.theory.specs.Limits.{maxProduced, maxSets, maxStates, heldWidth}
 use Rattle.theory.specs.Machine.{Sizes}
 use Rattle.theory.specs.AnswerTree.{heldNow}
 use Rattle.theory.specs.Query.{Bytes, byteAt}
-use Rattle.theory.specs.Scratch.{heldPart, successorsPart, startsPart, workLength, Stored}
+use Rattle.theory.specs.Scratch.{heldPart, successorsPart, startsPart, workLength, Stored, rowsTable}
 use Rattle.theory.specs.Table.{heldBytes, tableOf, walkedTable}
 use Rattle.theory.proofs.RowLaws.{flatten-length}
 use Rattle.theory.proofs.MachineTable as table
 use Rattle.byte_rows.proofs.PlacedLaws.{part-behind, part-placed}
 use Rattle.table_rows.specs.Rows.{RowsFound}
-use Rattle.table_rows.specs.Walk.{rowState, rowStates, machineOf, statesOf, tableIn, Visited, Walked, sizesOf}
+use Rattle.table_rows.specs.Walk.{rowState, rowStates, machineOf, statesOf, RowsVisited, Walked}
 use Rattle.table_rows.proofs.FindLaws.{rows-count}
 use Rattle.table_rows.proofs.WalkLaws.{visited-all}
 use Rattle.table_rows.proofs.WordTables.{rows-front}
@@ -30,17 +30,17 @@ part-reads at n work l h e each =
     ext-getD 0 (take n (drop at work)) l (long ∙ sym e)
     (λ i b. let low : i < n = omega arith in getD-take n (drop at work) i 0 low ∙ getD-drop at work i 0 ∙ each i low)
 
-module _ (z : Sizes) (words work : Bytes) (count : ℕ) (v : Visited z words work count count) where
+module _ (z : Sizes) (words work : Bytes) (count : ℕ) (v : RowsVisited z words work count count) where
   abbrev bits : ℕ
   bits = z .produced + z .tested
 
   -- the count of rows is the table's
-  pub found-count : count ≡ tableIn z words .stateCount
+  pub found-count : count ≡ rowsTable z words .stateCount
   unfolding walkedTable tableOf
   found-count = sym (ap length (visited-all z words v) ∙ rows-count bits (z .sets) work count)
 
   -- the rows' held words, end to end, are the table's
-  held-words : flatten (map heldBytes (tableIn z words .held)) ≡ heldRows bits (z .sets) work count
+  held-words : flatten (map heldBytes (rowsTable z words .held)) ≡ heldRows bits (z .sets) work count
   unfolding walkedTable tableOf
   held-words =
       ap (λ xs. flatten (map heldBytes (map heldNow xs))) (visited-all z words v)
@@ -50,53 +50,52 @@ module _ (z : Sizes) (words work : Bytes) (count : ℕ) (v : Visited z words wor
     abbrev after : Bytes
     after = holding bits (z .sets) work count
 
-    successors-count : length (flatten (tableIn z words .successors)) ≡ count * z .sets
+    successors-count : length (flatten (rowsTable z words .successors)) ≡ count * z .sets
     unfolding walkedTable
     successors-count =
         let m = machineOf z words in
-        flatten-length (z .sets) (tableIn z words .successors) (table.row-width m z (statesOf z words))
+        flatten-length (z .sets) (rowsTable z words .successors) (table.row-width m z (statesOf z words))
         ∙ ap (λ n. n * z .sets) (table.rows-count m z (statesOf z words) ∙ ap length (visited-all z words v) ∙ rows-count bits (z .sets) work count)
 
     -- each part of the scratch is the table's
-    starts-kept : take (z .produced) (drop startsPart after) ≡ tableIn z words .starts
+    starts-kept : take (z .produced) (drop startsPart after) ≡ rowsTable z words .starts
     unfolding walkedTable
     starts-kept =
         part-behind startsPart (z .produced) heldPart (heldRows bits (z .sets) work count) work (omega (arith, held-length bits (z .sets) work count, v .pairs .few)) (omega arith)
-        ∙ part-reads startsPart (z .produced) work (tableIn z words .starts) (omega arith) (table.starts-count (machineOf z words) z (statesOf z words)) (v .starts)
+        ∙ part-reads startsPart (z .produced) work (rowsTable z words .starts) (omega arith) (table.starts-count (machineOf z words) z (statesOf z words)) (v .starts)
 
-    successors-kept : take (count * z .sets) (drop successorsPart after) ≡ flatten (tableIn z words .successors)
+    successors-kept : take (count * z .sets) (drop successorsPart after) ≡ flatten (rowsTable z words .successors)
     successors-kept =
         let low : count * z .sets ≤ 128 * 8 = mul-le-mul {n₂ = 128} (v .pairs .few) small in
         part-behind successorsPart (count * z .sets) heldPart (heldRows bits (z .sets) work count) work (omega (arith, held-length bits (z .sets) work count, v .pairs .few)) (omega arith)
-        ∙ part-reads successorsPart (count * z .sets) work (flatten (tableIn z words .successors)) (omega arith) successors-count (v .successors)
+        ∙ part-reads successorsPart (count * z .sets) work (flatten (rowsTable z words .successors)) (omega arith) successors-count (v .successors)
 
-    held-kept : take (count * heldWidth) (drop heldPart after) ≡ flatten (map heldBytes (tableIn z words .held))
+    held-kept : take (count * heldWidth) (drop heldPart after) ≡ flatten (map heldBytes (rowsTable z words .held))
     held-kept = part-placed heldPart (count * heldWidth) (heldRows bits (z .sets) work count) work (held-length bits (z .sets) work count) (omega arith) ∙ sym held-words
 
-    pub found-stored : Stored (tableIn z words) after
+    pub found-stored : Stored (rowsTable z words) after
     unfolding walkedTable tableOf
     found-stored =
         record {
           long = omega (arith, holding-length bits (z .sets) work count long (v .pairs .few));
           starts = starts-kept;
-          successors = subst (λ n. take (n * z .sets) (drop successorsPart after) ≡ flatten (tableIn z words .successors)) found-count successors-kept;
-          held = subst (λ n. take (n * heldWidth) (drop heldPart after) ≡ flatten (map heldBytes (tableIn z words .held))) found-count held-kept;
+          successors = subst (λ n. take (n * z .sets) (drop successorsPart after) ≡ flatten (rowsTable z words .successors)) found-count successors-kept;
+          held = subst (λ n. take (n * heldWidth) (drop heldPart after) ≡ flatten (map heldBytes (rowsTable z words .held))) found-count held-kept;
         }
 
-module _ (produced tested sets : ℕ) (before work : Bytes) (count : ℕ) (few : produced ≤ maxProduced) (small : sets ≤ maxSets)
-    (w : Walked (sizesOf produced tested sets) (take heldPart before) work count count) where
+module _ (z : Sizes) (before work : Bytes) (count : ℕ) (few : z .produced ≤ maxProduced) (small : z .sets ≤ maxSets)
+    (w : Walked z (take heldPart before) work count count) where
   -- what the walk leaves where there is no room, and with the held words where there is
-  pub rows-over : maxStates < count → RowsFound produced tested sets before work count
+  pub rows-over : maxStates < count → RowsFound z before work count
   unfolding walkedTable tableOf
   rows-over more =
-      record { fits = λ f. absurd (omega arith); over = λ f. subst (λ t. maxStates < t .stateCount) (rows-front produced tested sets before few small) (w .over more) }
+      record { fits = λ f. absurd (omega arith); over = λ f. subst (λ t. maxStates < t .stateCount) (rows-front z before few small) (w .over more) }
 
-  pub rows-found : count ≤ maxStates → workLength ≤ length work → RowsFound produced tested sets before (holding (produced + tested) sets work count) count
+  pub rows-found : count ≤ maxStates → workLength ≤ length work → RowsFound z before (holding (z .produced + z .tested) (z .sets) work count) count
   rows-found fits long =
-      let z = sizesOf produced tested sets in
       let words = take heldPart before in
       record {
-        fits = λ f. subst (λ t. (count ≡ t .stateCount) × Stored t (holding (produced + tested) sets work count)) (rows-front produced tested sets before few small)
+        fits = λ f. subst (λ t. (count ≡ t .stateCount) × Stored t (holding (z .produced + z .tested) (z .sets) work count)) (rows-front z before few small)
             (found-count z words work count (w .fits fits), found-stored z words work count (w .fits fits) long few small);
         over = λ f. absurd (omega arith);
       }

@@ -9,12 +9,11 @@ use Rattle.theory.specs.Tests.{bitsOf}
 use Rattle.theory.specs.Choices.{withSet}
 use Rattle.theory.specs.AnswerTree.{takeTree, heldNow}
 use Rattle.theory.specs.Query.{Bytes}
-use Rattle.theory.specs.Scratch.{wordAt}
+use Rattle.theory.specs.Scratch.{wordAt, rowsMachine}
 use Rattle.theory.specs.Table.{number, heldBytes}
 use Rattle.theory.proofs.RowLaws.{number-below}
 use Rattle.theory.proofs.AnswerLaws.{take-tree, tree-same, tree-reads, held-tree}
 use Rattle.theory.proofs.ChoiceNumbers.{bits-length, number-cut, number-bits, bits-cut, number-none, number-with, or-assoc, word-bytes}
-use Rattle.table_rows.specs.Rows.{rowsMachine}
 use Rattle.table_rows.specs.Walk.{cutWord, stateOf}
 
 module _ (bits sets : ℕ) (words : Bytes) where

@@ -9,17 +9,17 @@ use lib.Bits.{bitOr}
 use lib.ListN.{length, take, getD, set}
 use Rattle.theory.specs.Tests.{position, upFrom}
 use Rattle.theory.specs.Limits.{maxSets, maxStates}
-use Rattle.theory.specs.Closure.{addAll}
+use Rattle.theory.specs.NumberingWalk.{addAll}
 use Rattle.theory.specs.Machine.{Sizes}
 use Rattle.theory.specs.AnswerTree.{AnswerTree, takeTree, sameTree}
 use Rattle.theory.specs.Query.{Bytes, byteAt}
-use Rattle.theory.specs.Scratch.{heldPart, successorsPart, workLength}
+use Rattle.theory.specs.Scratch.{heldPart, successorsPart, workLength, rowsTable}
 use Rattle.theory.specs.Table.{walkedTable}
 use Rattle.theory.proofs.ListLaws.{prefix-getD, prefix-length}
 use Rattle.theory.proofs.RowLaws.{entry-of-flatten}
 use Rattle.theory.proofs.WalkLaws.{walk-more}
 use Rattle.theory.proofs.MachineTable as table
-use Rattle.table_rows.specs.Walk.{stateOf, rowPlace, rowState, rowStates, Numbering, machineOf, statesOf, tableIn, walkOn, Visited, Visiting, Taking, Walked}
+use Rattle.table_rows.specs.Walk.{stateOf, rowPlace, rowState, rowStates, Numbering, machineOf, statesOf, walkOn, RowsVisited, Visiting, Taking, Walked}
 use Rattle.table_rows.proofs.StateLaws.{state-next}
 use Rattle.table_rows.proofs.FindLaws.{rows-count, rows-at}
 use Rattle.table_rows.proofs.WalkLaws.{slot-bound, ahead-prefix, joined, joined-number, joined-over, stored-successor}
@@ -32,7 +32,7 @@ module _ (z : Sizes) (words : Bytes) where
   all = statesOf z words
 
   -- Row i is the next to be visited.
-  module _ {work : Bytes} {count i : ℕ} (v : Visited z words work count i) (h : i < count) where
+  module _ {work : Bytes} {count i : ℕ} (v : RowsVisited z words work count i) (h : i < count) where
     abbrev rows : List AnswerTree
     rows = rowStates bits (z .sets) work count
 
@@ -96,17 +96,17 @@ module _ (z : Sizes) (words : Bytes) where
             first = v .first;
             ahead = rw add-one (rw (none, fuel) at (v .ahead));
             starts = v .starts;
-            successors = subst (λ n. (j : ℕ) → j < n → byteAt work (successorsPart + j) ≡ getD (flatten (tableIn z words .successors)) j 0) end (v .successors);
+            successors = subst (λ n. (j : ℕ) → j < n → byteAt work (successorsPart + j) ≡ getD (flatten (rowsTable z words .successors)) j 0) end (v .successors);
           };
           over = λ f. absurd (omega arith);
         }
 
     -- the successor for set s
-    successor : s < z .sets → getD (flatten (tableIn z words .successors)) (i * z .sets + s) 0 ≡ position sameTree (takeTree x s) all
+    successor : s < z .sets → getD (flatten (rowsTable z words .successors)) (i * z .sets + s) 0 ≡ position sameTree (takeTree x s) all
     unfolding walkedTable
     successor h =
         let machine = machineOf z words in
-        entry-of-flatten (z .sets) (tableIn z words .successors) i s (table.row-width machine z all) (rw (table.rows-count machine z all) (t .row)) h
+        entry-of-flatten (z .sets) (rowsTable z words .successors) i s (table.row-width machine z all) (rw (table.rows-count machine z all) (t .row)) h
         ∙ table.next-number machine z all i s x (t .row) h
         ∙ ap (λ y. position sameTree (takeTree y s) all) (t .state)
 

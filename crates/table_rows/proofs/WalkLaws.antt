@@ -10,19 +10,19 @@ use lib.Seq.{take-set-le, getD-set-same, getD-set-other}
 use borrow.Author.Count.{below-none, below-more}
 use Rattle.theory.specs.Tests.{position, upFrom}
 use Rattle.theory.specs.Limits.{maxProduced, maxSets, maxStates}
-use Rattle.theory.specs.Closure.{add, addAll}
+use Rattle.theory.specs.NumberingWalk.{add, addAll}
 use Rattle.theory.specs.Machine.{Sizes, numberedWithin}
 use Rattle.theory.specs.AnswerTree.{AnswerTree, takeTree, sameTree}
 use Rattle.theory.specs.Query.{Bytes, byteAt}
-use Rattle.theory.specs.Scratch.{heldPart, successorsPart, startsPart, openPart, workLength}
+use Rattle.theory.specs.Scratch.{heldPart, successorsPart, startsPart, openPart, workLength, rowsTable}
 use Rattle.theory.specs.Table.{walkedTable}
 use Rattle.theory.proofs.ListLaws.{prefix-trans, prefix-length}
 use Rattle.theory.proofs.PositionLaws.{position-grows}
-use Rattle.theory.proofs.ClosureLaws.{addAll-keeps, addAll-has, walk-keeps}
+use Rattle.theory.proofs.NumberingWalkLaws.{addAll-keeps, addAll-has, walk-keeps}
 use Rattle.theory.proofs.WalkLaws.{walk-end}
 use Rattle.theory.proofs.MachineTable as table
 use Rattle.theory.proofs.AnswerLaws.{decides-tree}
-use Rattle.table_rows.specs.Walk.{rowPlace, rowStates, Opened, Numbering, machineOf, statesOf, tableIn, walkOn, Walking, Starting, Visited}
+use Rattle.table_rows.specs.Walk.{rowPlace, rowStates, Opened, Numbering, machineOf, statesOf, walkOn, RowsWalking, Starting, RowsVisited}
 use Rattle.table_rows.proofs.FindLaws.{rows-count}
 use Rattle.table_rows.proofs.NumberLaws.{rows-kept, pairs-kept, wholes-kept}
 
@@ -50,7 +50,7 @@ module _ (z : Sizes) (words : Bytes) where
 
   -- The next state of those that are still to be added is numbered.
   module _ (f : ℕ → AnswerTree) (s n : ℕ) {work after : Bytes} {count fuel next begun taken number known : ℕ} {x : AnswerTree}
-      (w : Walking z words work count (map f (upFrom s (n - s))) fuel next begun taken) (h : s < n) (e : x ≡ f s) (j : Numbering (z .produced) bits (z .sets) work after x count number known) where
+      (w : RowsWalking z words work count (map f (upFrom s (n - s))) fuel next begun taken) (h : s < n) (e : x ≡ f s) (j : Numbering (z .produced) bits (z .sets) work after x count number known) where
     abbrev grown : List AnswerTree
     grown = add sameTree (rowStates bits (z .sets) work count) x
 
@@ -76,7 +76,7 @@ module _ (z : Sizes) (words : Bytes) where
         ∙ ap (λ y. position sameTree y all) e
 
     -- .. and the states behind it are still to be added
-    pub joined : known ≤ maxStates → Walking z words after known (map f (upFrom (s + 1) (n - (s + 1)))) fuel next begun taken
+    pub joined : known ≤ maxStates → RowsWalking z words after known (map f (upFrom (s + 1) (n - (s + 1)))) fuel next begun taken
     joined few =
         record {
           pairs = j .pairs few;
@@ -88,11 +88,11 @@ module _ (z : Sizes) (words : Bytes) where
         }
 
   -- A start's number and a successor's number are written behind the rows.
-  module _ {work : Bytes} {count fuel next begun taken : ℕ} {rest : List AnswerTree} (w : Walking z words work count rest fuel next begun taken)
+  module _ {work : Bytes} {count fuel next begun taken : ℕ} {rest : List AnswerTree} (w : RowsWalking z words work count rest fuel next begun taken)
       (long : workLength ≤ length work) (v : ℕ) where
     -- a byte behind the rows changes no row
-    stored : (k b t : ℕ) → successorsPart ≤ k → k < openPart → ((p : ℕ) → p < b → byteAt (set work k v) (startsPart + p) ≡ getD (tableIn z words .starts) p 0) →
-        ((j : ℕ) → j < t → byteAt (set work k v) (successorsPart + j) ≡ getD (flatten (tableIn z words .successors)) j 0) → Walking z words (set work k v) count rest fuel next b t
+    stored : (k b t : ℕ) → successorsPart ≤ k → k < openPart → ((p : ℕ) → p < b → byteAt (set work k v) (startsPart + p) ≡ getD (rowsTable z words .starts) p 0) →
+        ((j : ℕ) → j < t → byteAt (set work k v) (successorsPart + j) ≡ getD (flatten (rowsTable z words .successors)) j 0) → RowsWalking z words (set work k v) count rest fuel next b t
     stored k b t h l starts successors =
         let few = w .pairs .few in
         let front : take heldPart (set work k v) ≡ take heldPart work = take-set-le heldPart work k v (omega arith) in
@@ -107,7 +107,7 @@ module _ (z : Sizes) (words : Bytes) where
         }
 
     pub stored-start : begun < z .produced → z .produced ≤ maxProduced → taken ≡ 0 → v ≡ position sameTree (machineOf z words .start begun) (statesOf z words) →
-        Walking z words (set work (startsPart + begun) v) count rest fuel next (begun + 1) taken
+        RowsWalking z words (set work (startsPart + begun) v) count rest fuel next (begun + 1) taken
     unfolding walkedTable
     stored-start h few none e =
         let k = startsPart + begun in
@@ -116,17 +116,17 @@ module _ (z : Sizes) (words : Bytes) where
         (getD-set-same work k v 0 (omega arith) ∙ e ∙ sym (table.start-number (machineOf z words) z all begun h)))
         (λ j l. absurd (omega arith))
 
-    pub stored-successor : taken < 1024 → v ≡ getD (flatten (tableIn z words .successors)) taken 0 → (t : ℕ) → t ≡ taken + 1 →
-        Walking z words (set work (successorsPart + taken) v) count rest fuel next begun t
+    pub stored-successor : taken < 1024 → v ≡ getD (flatten (rowsTable z words .successors)) taken 0 → (t : ℕ) → t ≡ taken + 1 →
+        RowsWalking z words (set work (successorsPart + taken) v) count rest fuel next begun t
     stored-successor h e t d =
         let k = successorsPart + taken in
         stored k begun t (omega arith) (omega arith) (λ p l. getD-set-other work k (startsPart + p) v 0 (omega arith) ∙ w .starts p l)
         (λ j l.
-        below-more (λ j. byteAt (set work k v) (successorsPart + j) ≡ getD (flatten (tableIn z words .successors)) j 0) taken
+        below-more (λ j. byteAt (set work k v) (successorsPart + j) ≡ getD (flatten (rowsTable z words .successors)) j 0) taken
         (λ j l. getD-set-other work k (successorsPart + j) v 0 (omega arith) ∙ w .successors j l) (getD-set-same work k v 0 (omega arith) ∙ e) j (omega arith))
 
   -- All rows are visited: their states are all states.
-  pub visited-all : {work : Bytes} {count : ℕ} → Visited z words work count count → statesOf z words ≡ rowStates (z .produced + z .tested) (z .sets) work count
+  pub visited-all : {work : Bytes} {count : ℕ} → RowsVisited z words work count count → statesOf z words ≡ rowStates (z .produced + z .tested) (z .sets) work count
   visited-all {work} {count} v =
       let rows = rowStates bits (z .sets) work count in
       v .ahead ∙ walk-end sameTree (λ x. map (takeTree x) (upFrom 0 (z .sets))) maxStates (suc maxStates - count) rows count (omega (arith, rows-count bits (z .sets) work count))
@@ -144,7 +144,7 @@ starting-none z work opened =
       successors = below-none _;
     }
 
-pub starting-all : (z : Sizes) (words : Bytes) {work : Bytes} {count p : ℕ} → p ≡ z .produced → Starting z words work count p → Visited z words work count 0
+pub starting-all : (z : Sizes) (words : Bytes) {work : Bytes} {count p : ℕ} → p ≡ z .produced → Starting z words work count p → RowsVisited z words work count 0
 starting-all z words {work} {count} {p} e w =
     let none : z .produced - p ≡ 0 = omega arith in
     record {

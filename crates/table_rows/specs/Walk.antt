@@ -8,13 +8,12 @@ use lib.Bits.{bitOr}
 use lib.ListN.{length, take, getD}
 use Rattle.theory.specs.Tests.{position, upFrom, bitsOf, inMask}
 use Rattle.theory.specs.Limits.{maxProduced, maxStates, heldWidth}
-use Rattle.theory.specs.Closure.{add, addAll, walk}
+use Rattle.theory.specs.NumberingWalk.{add, addAll, walk}
 use Rattle.theory.specs.Machine.{Sizes, Machine, numberedWithin}
 use Rattle.theory.specs.AnswerTree.{AnswerTree, treeBy, takeTree, heldNow, sameTree}
 use Rattle.theory.specs.Query.{Bytes, byteAt}
 use Rattle.theory.specs.Table.{Table, number, heldBytes, walkedTable}
-use Rattle.theory.specs.Scratch.{wordAt, heldPart, successorsPart, startsPart, openIn}
-use Rattle.table_rows.specs.Rows.{rowsMachine}
+use Rattle.theory.specs.Scratch.{wordAt, heldPart, successorsPart, startsPart, openIn, rowsMachine, rowsTable}
 
 -- The word of a pair, of which so many bits count.
 abbrev pub cutWord : (bits sets : ℕ) → Bytes → ℕ → ℕ → ℕ
@@ -74,40 +73,37 @@ pub record Numbering (n bits sets : ℕ) (work after : Bytes) (x : AnswerTree) (
   pub below : count ≤ maxStates → number < count
   pub over : maxStates < count → maxStates < length (add sameTree (rowStates bits sets work before) x)
 
--- The machine that the words say, its numbered states and its table.
+-- The machine that the words say, and its numbered states.
 abbrev pub machineOf : (z : Sizes) → Bytes → Machine AnswerTree
 machineOf z words = rowsMachine (z .produced + z .tested) (z .sets) words
 
 abbrev pub statesOf : (z : Sizes) → Bytes → List AnswerTree
 statesOf z words = numberedWithin (machineOf z words) maxStates z
 
-abbrev pub tableIn : (z : Sizes) → Bytes → Table
-tableIn z words = walkedTable z (machineOf z words)
-
 -- The walk from found states on, at number i.
 abbrev pub walkOn : (z : Sizes) → (fuel : ℕ) → List AnswerTree → ℕ → List AnswerTree
 walkOn z fuel found i = walk sameTree (λ x. map (takeTree x) (upFrom 0 (z .sets))) maxStates fuel found i
 
 -- The rows found so far; when the rest are added to them too, the walk from there has all states. The first `begun` starts and the first `taken` successors are written.
-pub record Walking (z : Sizes) (words work : Bytes) (count : ℕ) (rest : List AnswerTree) (fuel next begun taken : ℕ) : Type 0 where
+pub record RowsWalking (z : Sizes) (words work : Bytes) (count : ℕ) (rest : List AnswerTree) (fuel next begun taken : ℕ) : Type 0 where
   pub pairs : Pairs (z .sets) work count
   pub wholes : Wholes (z .produced) (z .produced + z .tested) (z .sets) work count
   pub first : take heldPart work ≡ words
   pub ahead : statesOf z words ≡ walkOn z fuel (addAll sameTree (rowStates (z .produced + z .tested) (z .sets) work count) rest) next
-  pub starts : (p : ℕ) → p < begun → byteAt work (startsPart + p) ≡ getD (tableIn z words .starts) p 0
-  pub successors : (j : ℕ) → j < taken → byteAt work (successorsPart + j) ≡ getD (flatten (tableIn z words .successors)) j 0
+  pub starts : (p : ℕ) → p < begun → byteAt work (startsPart + p) ≡ getD (rowsTable z words .starts) p 0
+  pub successors : (j : ℕ) → j < taken → byteAt work (successorsPart + j) ≡ getD (flatten (rowsTable z words .successors)) j 0
 
 -- The starts before number p are numbered.
 abbrev pub Starting : (z : Sizes) → Bytes → Bytes → ℕ → ℕ → Type 0
-Starting z words work count p = Walking z words work count (map (machineOf z words .start) (upFrom p (z .produced - p))) (suc maxStates) 0 p 0
+Starting z words work count p = RowsWalking z words work count (map (machineOf z words .start) (upFrom p (z .produced - p))) (suc maxStates) 0 p 0
 
 -- The rows before number i have been visited.
-abbrev pub Visited : (z : Sizes) → Bytes → Bytes → ℕ → ℕ → Type 0
-Visited z words work count i = Walking z words work count [] (suc maxStates - i) i (z .produced) (i * z .sets)
+abbrev pub RowsVisited : (z : Sizes) → Bytes → Bytes → ℕ → ℕ → Type 0
+RowsVisited z words work count i = RowsWalking z words work count [] (suc maxStates - i) i (z .produced) (i * z .sets)
 
 -- Row i, whose state is x, has taken the sets before number s.
 abbrev pub Visiting : (z : Sizes) → Bytes → Bytes → ℕ → AnswerTree → ℕ → ℕ → Type 0
-Visiting z words work count x i s = Walking z words work count (map (takeTree x) (upFrom s (z .sets - s))) (maxStates - i) (suc i) (z .produced) (i * z .sets + s)
+Visiting z words work count x i s = RowsWalking z words work count (map (takeTree x) (upFrom s (z .sets - s))) (maxStates - i) (suc i) (z .produced) (i * z .sets + s)
 
 -- State i of all is what the pair of p and m gives, and row i has taken the sets before number s.
 pub record Taking (z : Sizes) (words work : Bytes) (count i p m s : ℕ) : Type 0 where
@@ -121,12 +117,12 @@ pub record Taking (z : Sizes) (words work : Bytes) (count i p m s : ℕ) : Type 
 -- There was room for the rows, or there are more.
 pub record Walked (z : Sizes) (words work : Bytes) (count i : ℕ) : Type 0 where
   pub within : i ≤ count
-  pub fits : count ≤ maxStates → Visited z words work count i
+  pub fits : count ≤ maxStates → RowsVisited z words work count i
   pub over : maxStates < count → maxStates < length (statesOf z words)
 
 -- The sizes, as the functions are given them.
-abbrev pub sizesOf : (produced tested sets : ℕ) → Sizes
-sizesOf produced tested sets = record { produced = produced; tested = tested; sets = sets }
+abbrev pub sizesGiven : (produced tested sets : ℕ) → Sizes
+sizesGiven produced tested sets = record { produced = produced; tested = tested; sets = sets }
 
 -- What row i holds, as two bytes.
 abbrev pub heldRow : (bits sets : ℕ) → Bytes → ℕ → Bytes

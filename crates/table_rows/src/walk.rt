@@ -7,7 +7,7 @@ ghost use Prim.Native.Nat.{_+_, _*_, _≤_, _<_};
 ghost use lib.ListN.{length, take};
 ghost use Rattle.theory.specs.Limits.{maxProduced, maxTested, maxSets, maxStates};
 ghost use Rattle.theory.specs.Scratch.{heldPart, successorsPart, startsPart, workLength};
-ghost use Rattle.table_rows.specs.Walk.{Opened, Visited, Taking, Walked, sizesOf};
+ghost use Rattle.table_rows.specs.Walk.{Opened, RowsVisited, Taking, Walked, sizesGiven};
 use numbers::limits::MAX_STATES;
 use numbers::scratch::STARTS_PART;
 use numbers::scratch::SUCCESSORS_PART;
@@ -15,7 +15,7 @@ use numbers::scratch::SUCCESSORS_PART;
 // Each produced order with no set in force is numbered, and its number written to the starts. How many rows there are.
 pub fn number_starts(work: &mut [u8], produced: usize, tested: usize, sets: usize) -> usize
     requires { ⌜ Opened produced (produced + tested) sets (take heldPart (now work)) (now work) × (produced ≤ maxProduced) × (tested ≤ maxTested) × (sets ≤ maxSets) × (workLength ≤ length (now work)) ⌝ }
-    ensures { λ r. ⌜ Visited (sizesOf produced tested sets) (take heldPart (now (work .entry))) (now (work .exit)) r 0 × (length (now (work .exit)) ≡ length (now (work .entry))) ⌝ }
+    ensures { λ r. ⌜ RowsVisited (sizesGiven produced tested sets) (take heldPart (now (work .entry))) (now (work .exit)) r 0 × (length (now (work .exit)) ≡ length (now (work .entry))) ⌝ }
 {
     let mut known = 0;
     let mut p = 0;
@@ -48,8 +48,8 @@ fn take_sets(
     p: usize,
     m: usize,
 ) -> usize
-    requires { ⌜ Taking (sizesOf produced tested sets) (take heldPart (now work)) (now work) count i p m 0 × (produced ≤ maxProduced) × (tested ≤ maxTested) × (sets ≤ maxSets) × (workLength ≤ length (now work)) ⌝ }
-    ensures { λ r. ⌜ Walked (sizesOf produced tested sets) (take heldPart (now (work .entry))) (now (work .exit)) r (i + 1) × (length (now (work .exit)) ≡ length (now (work .entry))) ⌝ }
+    requires { ⌜ Taking (sizesGiven produced tested sets) (take heldPart (now work)) (now work) count i p m 0 × (produced ≤ maxProduced) × (tested ≤ maxTested) × (sets ≤ maxSets) × (workLength ≤ length (now work)) ⌝ }
+    ensures { λ r. ⌜ Walked (sizesGiven produced tested sets) (take heldPart (now (work .entry))) (now (work .exit)) r (i + 1) × (length (now (work .exit)) ≡ length (now (work .entry))) ⌝ }
 {
     let mut known = count;
     let mut s = 0;
@@ -84,8 +84,8 @@ fn visit(
     count: usize,
     i: usize,
 ) -> usize
-    requires { ⌜ Visited (sizesOf produced tested sets) (take heldPart (now work)) (now work) count i × (i < count) × (produced ≤ maxProduced) × (tested ≤ maxTested) × (sets ≤ maxSets) × (workLength ≤ length (now work)) ⌝ }
-    ensures { λ r. ⌜ Walked (sizesOf produced tested sets) (take heldPart (now (work .entry))) (now (work .exit)) r (i + 1) × (length (now (work .exit)) ≡ length (now (work .entry))) ⌝ }
+    requires { ⌜ RowsVisited (sizesGiven produced tested sets) (take heldPart (now work)) (now work) count i × (i < count) × (produced ≤ maxProduced) × (tested ≤ maxTested) × (sets ≤ maxSets) × (workLength ≤ length (now work)) ⌝ }
+    ensures { λ r. ⌜ Walked (sizesGiven produced tested sets) (take heldPart (now (work .entry))) (now (work .exit)) r (i + 1) × (length (now (work .exit)) ≡ length (now (work .entry))) ⌝ }
 {
     let p = find::row_order(work, i);
     let m = find::row_choice(work, i);
@@ -100,8 +100,8 @@ pub fn walk_rows(
     sets: usize,
     count: usize,
 ) -> usize
-    requires { ⌜ Visited (sizesOf produced tested sets) (take heldPart (now work)) (now work) count 0 × (produced ≤ maxProduced) × (tested ≤ maxTested) × (sets ≤ maxSets) × (workLength ≤ length (now work)) ⌝ }
-    ensures { λ r. ⌜ Walked (sizesOf produced tested sets) (take heldPart (now (work .entry))) (now (work .exit)) r r × (length (now (work .exit)) ≡ length (now (work .entry))) ⌝ }
+    requires { ⌜ RowsVisited (sizesGiven produced tested sets) (take heldPart (now work)) (now work) count 0 × (produced ≤ maxProduced) × (tested ≤ maxTested) × (sets ≤ maxSets) × (workLength ≤ length (now work)) ⌝ }
+    ensures { λ r. ⌜ Walked (sizesGiven produced tested sets) (take heldPart (now (work .entry))) (now (work .exit)) r r × (length (now (work .exit)) ≡ length (now (work .entry))) ⌝ }
 {
     let mut known = count;
     let mut i = 0;

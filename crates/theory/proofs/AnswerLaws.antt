@@ -9,7 +9,7 @@ use lib.ListN.{length}
 use Rattle.theory.specs.Tests.{Says, holds, fails, Decides, position, upFrom}
 use Rattle.theory.specs.Limits.{maxStates}
 use Rattle.theory.specs.Choices.{Choice, noSets, withSet, withSets}
-use Rattle.theory.specs.Closure.{closure}
+use Rattle.theory.specs.NumberingWalk.{numberingWalk}
 use Rattle.theory.specs.Machine.{Sizes, AllBelow, runs, Reached, Reduced, numberedWithin}
 use Rattle.theory.specs.Table.{Table, tableOf, walkedTable}
 use Rattle.theory.specs.AnswerTree.{AnswerTree, answer, fork, treeBy, takeTree, heldNow, sameTree, answering}
@@ -121,7 +121,7 @@ module _ (z : Sizes) (n : ℕ) where
   -- the table from the trees at the starts and their numbers
   abbrev tableWith : List AnswerTree → List ℕ → Table
   tableWith starts numbers =
-      let xs = closure sameTree (λ x. map (takeTree x) (upFrom 0 (z .sets))) maxStates starts in
+      let xs = numberingWalk sameTree (λ x. map (takeTree x) (upFrom 0 (z .sets))) maxStates starts in
       record {
         stateCount = length xs;
         producedCount = z .produced;
@@ -138,7 +138,7 @@ module _ (z : Sizes) (n : ℕ) where
   answers-same f g h =
       let start : (p : ℕ) → p < z .produced → treeBy n (f p) ≡ treeBy n (g p) = λ p l. tree-same n (f p) (g p) (λ c e. h p c l e) in
       let starts = map-below (λ p. treeBy n (f p)) (λ p. treeBy n (g p)) (answer []) (z .produced) start in
-      let found : List AnswerTree → List AnswerTree = closure sameTree (λ x. map (takeTree x) (upFrom 0 (z .sets))) maxStates in
+      let found : List AnswerTree → List AnswerTree = numberingWalk sameTree (λ x. map (takeTree x) (upFrom 0 (z .sets))) maxStates in
       ap₂ tableWith starts
       (map-below (λ p. position sameTree (treeBy n (f p)) (found (map (λ p. treeBy n (f p)) (upFrom 0 (z .produced)))))
       (λ p. position sameTree (treeBy n (g p)) (found (map (λ p. treeBy n (g p)) (upFrom 0 (z .produced))))) 0 (z .produced)

@@ -9,12 +9,12 @@ use lib.ListN.{length}
 use Rattle.theory.specs.Tests.{Says, holds, fails}
 use Rattle.theory.specs.Limits.{maxStates, scratchLength}
 use Rattle.theory.specs.Orders.{Query, WellFormed}
-use Rattle.theory.specs.Closure.{More}
-use Rattle.theory.specs.Construction.{sizesOf, answersOf, State, MorePairs}
+use Rattle.theory.specs.NumberingWalk.{More}
+use Rattle.theory.specs.Construction.{sizesOfQuery, answersOf, State, MorePairs}
 use Rattle.theory.specs.Refusals.{passed, orderings-refused, space-refused}
 use Rattle.theory.specs.Query.{Bytes, readQuery, queryRefusal}
 use Rattle.theory.specs.Table.{Table, tableOf, walkedTable, writeTable}
-use Rattle.theory.specs.Build.{Constructed, too-many, table, queryTable, construct, Constructs, many-states, its-table, Outcome, refused, built, delivered, outcome, Means, query-refused, scratch-short, not-constructed, output-short, table-built}
+use Rattle.theory.specs.Build.{Constructed, too-many, table, queryTable, construct, Constructs, many-states, its-table, Outcome, refused, built, delivered, outcome, OutcomeMeans, query-refused, scratch-short, not-constructed, output-short, table-built}
 use Rattle.theory.proofs.Reflect.{says-eqb, says-ltb}
 use Rattle.theory.proofs.AnswerLaws.{decides-tree}
 use Rattle.theory.proofs.MachineLaws.{numbered-many}
@@ -25,7 +25,7 @@ module _ (q : Query) where
   -- the table has more states than the limit exactly when there are more
   many-says : Says (More maxStates (State q)) (ltb maxStates (queryTable q .stateCount))
   unfolding walkedTable tableOf
-  many-says = numbered-many (answersOf q) (sizesOf q) decides-tree maxStates
+  many-says = numbered-many (answersOf q) (sizesOfQuery q) decides-tree maxStates
 
   -- What is constructed means what the list says.
   pub construct-means : Constructs q (construct q)
@@ -55,24 +55,24 @@ module _ (query : Bytes) (scratch output : ℕ) where
   module _ (c : queryRefusal query ≡ passed) where
     module _ (s : scratchLength ≤ scratch) where
       written-means : {t : Table} → Constructs (readQuery query) (table t) → {b : Bool} → Says (output < length (writeTable t)) b →
-          Means query scratch output (elim b [ true ↦ refused space-refused | false ↦ built (writeTable t) ])
+          OutcomeMeans query scratch output (elim b [ true ↦ refused space-refused | false ↦ built (writeTable t) ])
       written-means k (holds h) = output-short c s k h
       written-means k (fails h) = table-built c s k (omega arith)
 
-      delivered-means : (k : Constructed) → Constructs (readQuery query) k → Means query scratch output (delivered k output)
+      delivered-means : (k : Constructed) → Constructs (readQuery query) k → OutcomeMeans query scratch output (delivered k output)
       delivered-means too-many d = not-constructed c s d
       delivered-means (table t) d = written-means d (says-ltb output (length (writeTable t)))
 
-    lent-means : {b : Bool} → Says (scratch < scratchLength) b → Means query scratch output (lent b)
+    lent-means : {b : Bool} → Says (scratch < scratchLength) b → OutcomeMeans query scratch output (lent b)
     lent-means (holds h) = scratch-short c h
     lent-means (fails h) = delivered-means (omega arith) (construct (readQuery query)) (construct-means (readQuery query))
 
-  checked-means : {b : Bool} → Says (queryRefusal query ≡ passed) b → Means query scratch output (checked b)
+  checked-means : {b : Bool} → Says (queryRefusal query ≡ passed) b → OutcomeMeans query scratch output (checked b)
   checked-means (holds c) = lent-means c (says-ltb scratch scratchLength)
   checked-means (fails n) = query-refused n
 
   -- The outcome of every build means what the list says.
-  pub outcome-means : Means query scratch output (outcome query scratch output)
+  pub outcome-means : OutcomeMeans query scratch output (outcome query scratch output)
   unfolding outcome
   outcome-means = checked-means (says-eqb (queryRefusal query) passed)
 
@@ -84,7 +84,7 @@ module _ (query : Bytes) (scratch output : ℕ) where
       number (refused n) = n
       number (built t) = passed
 
-      go : {o : Outcome} → Means query scratch output o → o ≢ refused orderings-refused
+      go : {o : Outcome} → OutcomeMeans query scratch output o → o ≢ refused orderings-refused
       go (query-refused _) e = let n = ap number e in let few = query-few query in omega arith
       go (scratch-short _ _) e = let n = ap number e in omega arith
       go (not-constructed _ _ _) e = let n = ap number e in omega arith

@@ -13,7 +13,7 @@ use Rattle.theory.specs.Choices.{inForce, noSets, withSets, rulesUnder}
 use Rattle.theory.specs.Machine.{Sizes, Machine, AllBelow, runs, numberedWithin, Reduced, SameAnswers}
 use Rattle.theory.specs.AnswerTree.{AnswerTree, sameTree}
 use Rattle.theory.specs.Settled.{isHeld, Exact}
-use Rattle.theory.specs.Construction.{sizesOf, heldUnder, answersOf, State}
+use Rattle.theory.specs.Construction.{sizesOfQuery, heldUnder, answersOf, State}
 use Rattle.theory.specs.Refusals.{passed}
 use Rattle.theory.specs.Table.{Table, Sized, Numbered, tableOf, walkedTable, countsOf, numbersOf, writeTable, tableRefusal}
 use Rattle.theory.specs.Build.{Constructs, its-table, table, queryTable}
@@ -26,21 +26,21 @@ use Rattle.theory.proofs.ChoiceLaws.{taken-force}
 use Rattle.theory.proofs.HeldLaws.{held-exactly}
 use Rattle.theory.proofs.AnswerLaws.{decides-tree, held-after, answering-reduced}
 use Rattle.theory.proofs.MachineLaws.{numbered-exactly, numbered-distinct, numbered-many, Inside}
-use Rattle.theory.proofs.PairLaws.{Covers, same-sym, same-trans, covers-reduced}
+use Rattle.theory.proofs.JointLaws.{Covers, same-sym, same-trans, covers-reduced}
 use Rattle.theory.proofs.MachineTable.{Limited, Enumerated, table-sized, table-numbered, numbers-cover, numbers-answer}
 use Rattle.theory.proofs.SmallestTable.{smallest, one-table}
 use Rattle.theory.proofs.Faithfulness.{numbers-tell, faithful-table, table-passes}
 
 -- The states by number, and the number of a state.
 abbrev pub statesOf : (q : Query) → List AnswerTree
-statesOf q = numberedWithin (answersOf q) maxStates (sizesOf q)
+statesOf q = numberedWithin (answersOf q) maxStates (sizesOfQuery q)
 
 abbrev pub stateNumber : (q : Query) → AnswerTree → ℕ
 stateNumber q t = position sameTree t (statesOf q)
 
 -- No two states are alike.
-pub states-reduced : (q : Query) → Reduced (sizesOf q) (answersOf q)
-states-reduced q = answering-reduced (sizesOf q) (λ p c. heldUnder q (getD (q .produced) p []) c)
+pub states-reduced : (q : Query) → Reduced (sizesOfQuery q) (answersOf q)
+states-reduced q = answering-reduced (sizesOfQuery q) (λ p c. heldUnder q (getD (q .produced) p []) c)
 
 -- what is held after a run of sets
 pub held-run : (q : Query) (p : ℕ) (ss : List ℕ) → answersOf q .held (runs (answersOf q) (answersOf q .start p) ss) ≡ heldUnder q (getD (q .produced) p []) (withSets (noSets (q .sets)) ss)
@@ -77,12 +77,12 @@ held-wide q t r =
     ∙ length-map (interesting q) (λ o. isHeld (rulesUnder q (withSets (noSets (q .sets)) (r .sets))) (getD (q .produced) (r .order) []) o) ∙ length-append (q .produced) (q .tested)
 
 -- its states by number
-pub states-known : (q : Query) → length (statesOf q) ≤ maxStates → Enumerated (answersOf q) (sizesOf q) (statesOf q)
+pub states-known : (q : Query) → length (statesOf q) ≤ maxStates → Enumerated (answersOf q) (sizesOfQuery q) (statesOf q)
 states-known q few =
     record {
       decides = decides-tree;
       few = few;
-      exactly = numbered-exactly (answersOf q) (sizesOf q) decides-tree maxStates few;
+      exactly = numbered-exactly (answersOf q) (sizesOfQuery q) decides-tree maxStates few;
       wide = held-wide q;
     }
 
@@ -92,22 +92,22 @@ pub record Made (q : Query) (t : Table) : Type 0 where
   pub table-is : t ≡ queryTable q
 
 pub made : (q : Query) {t : Table} → Constructs q (table t) → Made q t
-made q (its-table m) = record { few = ltb-false maxStates (length (statesOf q)) (false-says (numbered-many (answersOf q) (sizesOf q) decides-tree maxStates) m); table-is = refl }
+made q (its-table m) = record { few = ltb-false maxStates (length (statesOf q)) (false-says (numbered-many (answersOf q) (sizesOfQuery q) decides-tree maxStates) m); table-is = refl }
 
-module _ {q : Query} {t : Table} (limits : Limited (sizesOf q)) (d : Made q t) where
+module _ {q : Query} {t : Table} (limits : Limited (sizesOfQuery q)) (d : Made q t) where
   -- the table is that of the query's machine
-  known : Enumerated (answersOf q) (sizesOf q) (statesOf q)
+  known : Enumerated (answersOf q) (sizesOfQuery q) (statesOf q)
   known = states-known q (d .few)
 
-  by-rows : (P : Table → Type 0) → P (tableOf (answersOf q) (sizesOf q) (statesOf q)) → P t
+  by-rows : (P : Table → Type 0) → P (tableOf (answersOf q) (sizesOfQuery q) (statesOf q)) → P t
   unfolding walkedTable
   by-rows P = subst P (sym (d .table-is))
 
   pub made-sized : Sized t
-  made-sized = by-rows Sized (table-sized (answersOf q) (sizesOf q) (statesOf q) limits known)
+  made-sized = by-rows Sized (table-sized (answersOf q) (sizesOfQuery q) (statesOf q) limits known)
 
   pub made-numbered : Numbered t
-  made-numbered = by-rows Numbered (table-numbered (answersOf q) (sizesOf q) (statesOf q) limits known)
+  made-numbered = by-rows Numbered (table-numbered (answersOf q) (sizesOfQuery q) (statesOf q) limits known)
 
   -- the table's numbers, and its bytes, tell the query's derivation
   pub made-tells : WellFormed q → Tells q (numbersOf t)
@@ -120,41 +120,41 @@ module _ {q : Query} {t : Table} (limits : Limited (sizesOf q)) (d : Made q t) w
   made-passes = by-rows (λ k. tableRefusal (writeTable k) ≡ passed) (table-passes q (answersOf q) (statesOf q) limits known)
 
   -- the table has the query's sizes
-  pub made-sizes : countsOf t ≡ sizesOf q
+  pub made-sizes : countsOf t ≡ sizesOfQuery q
   unfolding tableOf
-  made-sizes = by-rows (λ k. countsOf k ≡ sizesOf q) refl
+  made-sizes = by-rows (λ k. countsOf k ≡ sizesOfQuery q) refl
 
   pub made-counts : (t .producedCount ≡ length (q .produced)) × (t .testedCount ≡ length (q .tested)) × (t .setCount ≡ q .sets)
   made-counts = (ap (λ (z : Sizes). z .produced) made-sizes, ap (λ (z : Sizes). z .tested) made-sizes, ap (λ (z : Sizes). z .sets) made-sizes)
 
   -- its rows are the numbers of the trees
-  pub made-cover : Covers (sizesOf q) (answersOf q) (numbersOf t) (stateNumber q)
-  made-cover = by-rows (λ k. Covers (sizesOf q) (answersOf q) (numbersOf k) (stateNumber q)) (numbers-cover (answersOf q) (sizesOf q) (statesOf q) limits known)
+  pub made-cover : Covers (sizesOfQuery q) (answersOf q) (numbersOf t) (stateNumber q)
+  made-cover = by-rows (λ k. Covers (sizesOfQuery q) (answersOf q) (numbersOf k) (stateNumber q)) (numbers-cover (answersOf q) (sizesOfQuery q) (statesOf q) limits known)
 
   -- No two of its rows that are reached are alike.
-  pub made-reduced : Reduced (sizesOf q) (numbersOf t)
+  pub made-reduced : Reduced (sizesOfQuery q) (numbersOf t)
   made-reduced = covers-reduced (answersOf q) (numbersOf t) made-cover (states-reduced q)
 
-  answers : SameAnswers (sizesOf q) (answersOf q) (numbersOf t)
+  answers : SameAnswers (sizesOfQuery q) (answersOf q) (numbersOf t)
   answers =
-      by-rows (λ k. SameAnswers (sizesOf q) (answersOf q) (numbersOf k))
-      (same-sym (sizesOf q) (numbersOf (tableOf (answersOf q) (sizesOf q) (statesOf q))) (answersOf q) (numbers-answer (answersOf q) (sizesOf q) (statesOf q) limits known))
+      by-rows (λ k. SameAnswers (sizesOfQuery q) (answersOf q) (numbersOf k))
+      (same-sym (sizesOfQuery q) (numbersOf (tableOf (answersOf q) (sizesOfQuery q) (statesOf q))) (answersOf q) (numbers-answer (answersOf q) (sizesOfQuery q) (statesOf q) limits known))
 
   pub made-count : t .stateCount ≡ length (statesOf q)
   unfolding tableOf
   made-count = by-rows (λ k. k .stateCount ≡ length (statesOf q)) refl
 
   -- No machine of fewer states has the same answers, ..
-  pub made-smallest : (k : Machine ℕ) (b : ℕ) → Inside k (sizesOf q) b → SameAnswers (sizesOf q) (numbersOf t) k → t .stateCount ≤ b
+  pub made-smallest : (k : Machine ℕ) (b : ℕ) → Inside k (sizesOfQuery q) b → SameAnswers (sizesOfQuery q) (numbersOf t) k → t .stateCount ≤ b
   made-smallest k b inside same =
       subst (λ n. n ≤ b) (sym made-count)
-      (smallest (sizesOf q) (answersOf q) (states-reduced q) k b inside (same-trans (sizesOf q) (answersOf q) (numbersOf t) k answers same) (statesOf q)
-      (numbered-distinct (answersOf q) (sizesOf q) decides-tree maxStates) (λ x i. known .exactly x .0 i))
+      (smallest (sizesOfQuery q) (answersOf q) (states-reduced q) k b inside (same-trans (sizesOfQuery q) (answersOf q) (numbersOf t) k answers same) (statesOf q)
+      (numbered-distinct (answersOf q) (sizesOfQuery q) decides-tree maxStates) (λ x i. known .exactly x .0 i))
 
   -- .. and every reduced machine with the same answers has this table.
-  pub made-only : {X : Type 0} (k : Machine X) → Decides (k .same) → Reduced (sizesOf q) k → length (numberedWithin k maxStates (sizesOf q)) ≤ maxStates →
-      SameAnswers (sizesOf q) (numbersOf t) k → t ≡ tableOf k (sizesOf q) (numberedWithin k maxStates (sizesOf q))
+  pub made-only : {X : Type 0} (k : Machine X) → Decides (k .same) → Reduced (sizesOfQuery q) k → length (numberedWithin k maxStates (sizesOfQuery q)) ≤ maxStates →
+      SameAnswers (sizesOfQuery q) (numbersOf t) k → t ≡ tableOf k (sizesOfQuery q) (numberedWithin k maxStates (sizesOfQuery q))
   unfolding tableOf walkedTable
   made-only k decides reduced′ few same =
       d .table-is
-      ∙ one-table (sizesOf q) (answersOf q) k decides-tree decides (same-trans (sizesOf q) (answersOf q) (numbersOf t) k answers same) (states-reduced q) reduced′ maxStates (known .few) few
+      ∙ one-table (sizesOfQuery q) (answersOf q) k decides-tree decides (same-trans (sizesOfQuery q) (answersOf q) (numbersOf t) k answers same) (states-reduced q) reduced′ maxStates (known .few) few

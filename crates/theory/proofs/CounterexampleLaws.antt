@@ -9,21 +9,22 @@ use mathlib.Core.Bool.{Bool, true, false, not, true≢false}
 use mathlib.Core.Logic.{_⊎_, inl, inr, ⊎-elim}
 use mathlib.Core.List.{List, [], _∷_, _++_, map, List·Memᴰ, List·Memᴰ·head, List·Memᴰ·tail, List·Memᴰ·not-nil, List·Memᴰ·eq-of-singleton, Memᴰ·append-left, Memᴰ·append-right, Memᴰ·map, Memᴰ·of-map}
 use lib.IntN.{ℤ, pos}
+use lib.Signed.{_<ℤ_, ltZ-yes, <ℤ-irrefl}
 use lib.ListN.{length, take, getD, List·getD-eq-default}
 use Rattle.theory.specs.Tests.{pick, Says, holds, fails, those, upFrom}
 use Rattle.theory.specs.Orders.{Order, column, columns, Rule, fix, equal, RulesBelow}
-use Rattle.theory.specs.Rows.{Less, Row, cell, Below, Stands, ObeysAll, Counterexample, Broken}
+use Rattle.theory.specs.Rows.{Row, cell, Below, Stands, ObeysAll, Counterexample, Broken}
 use Rattle.theory.specs.Settled.{Settled, among, fixed, equalled, settledColumns, settled, isEqual, alike, fromUnsettled, entryHeld, heldBehind, isHeld}
 use Rattle.theory.proofs.Reflect.{true-says, false-says, says-one, says-as, says-ltb}
 use Rattle.theory.proofs.ListLaws.{Within, member-getD}
 use Rattle.theory.proofs.RowLaws.{all-cons}
 use Rattle.theory.proofs.RangeLaws.{entry-of, entry-count}
-use Rattle.theory.proofs.RowTheorem.{less-irrefl, column-skip}
+use Rattle.theory.proofs.RowTheorem.{column-skip}
 use Rattle.theory.proofs.SettledLaws.{member-those, those-member, settled-through, settled-more, says-settled}
 
 -- in column d the first row is neither below the second nor alike to it
 abbrev Above : Row → Row → ℕ → Type 0
-Above x y d = ¬ (Less (cell x d) (cell y d) ⊎ (cell x d ≡ cell y d))
+Above x y d = ¬ ((cell x d <ℤ cell y d) ⊎ (cell x d ≡ cell y d))
 
 module _ (rs : List Rule) where
   -- the rows are alike in each column that w settles
@@ -109,12 +110,12 @@ module _ (rs : List Rule) where
   pub record Stop (w : List ℕ) (c : ℕ) (r o : Order) : Type 0 where
     pub unsettled : ¬ Settled rs w c
     pub named : List·Memᴰ c (columns o)
-    pub below : (x y : Row) → Agree w x y → Less (cell x c) (cell y c) → Below x y o
+    pub below : (x y : Row) → Agree w x y → (cell x c <ℤ cell y c) → Below x y o
     pub stuck : Stuck w c r
 
   -- rows that agree in the columns of the first entries compare by the next one
   below-at : (o : Order) (i : ℕ) → i < length o → (x y : Row) → ((d : ℕ) → List·Memᴰ d (columns (take i o)) → cell x d ≡ cell y d)
-      → Less (cell x (column (getD o i 0))) (cell y (column (getD o i 0))) → Below x y o
+      → (cell x (column (getD o i 0)) <ℤ cell y (column (getD o i 0))) → Below x y o
   below-at [] i h x y a l = let z : ⊥ = omega arith in absurd z
   below-at (e ∷ o) zero h x y a l = inl l
   below-at (e ∷ o) (suc i) h x y a l = inr (a (column e) (List·Memᴰ·head refl), below-at o i (le-of-suc-le-suc h) x y (λ d m. a d (List·Memᴰ·tail m)) l)
@@ -169,15 +170,15 @@ value-bit false true = inr refl
 value-bit false false = inl refl
 
 -- what holds of the one and of the other holds of both
-all-pair : {A : Type 0} (P : A → Type 0) {u v : A} → P u → P v → (x : A) → List·Memᴰ x (u ∷ v ∷ []) → P x
-all-pair P p q = all-cons {P = P} p (all-cons {P = P} q (λ x m. absurd (List·Memᴰ·not-nil m)))
+all-two : {A : Type 0} (P : A → Type 0) {u v : A} → P u → P v → (x : A) → List·Memᴰ x (u ∷ v ∷ []) → P x
+all-two P p q = all-cons {P = P} p (all-cons {P = P} q (λ x m. absurd (List·Memᴰ·not-nil m)))
 
 -- two rows stand in an order where the second is not below the first
-pair-stands : (x y : Row) (o : Order) → ¬ Below y x o → Stands (x ∷ y ∷ []) o
-pair-stands x y o f zero (suc zero) l h b = f b
-pair-stands x y o f i zero l h b = let z : ⊥ = omega arith in absurd z
-pair-stands x y o f (suc i) (suc zero) l h b = let z : ⊥ = omega arith in absurd z
-pair-stands x y o f i (suc (suc j)) l h b = let z : ⊥ = omega arith in absurd z
+two-stand : (x y : Row) (o : Order) → ¬ Below y x o → Stands (x ∷ y ∷ []) o
+two-stand x y o f zero (suc zero) l h b = f b
+two-stand x y o f i zero l h b = let z : ⊥ = omega arith in absurd z
+two-stand x y o f (suc i) (suc zero) l h b = let z : ⊥ = omega arith in absurd z
+two-stand x y o f i (suc (suc j)) l h b = let z : ⊥ = omega arith in absurd z
 
 module _ (n : ℕ) (rs : List Rule) (w : List ℕ) where
   -- the row of n columns that is 0 in each column that w settles, elsewhere 1 where the test passes
@@ -216,8 +217,8 @@ equal-settled {qs} v {a} {b} m = says-one (says-settled qs v a) (says-as (equall
 
 -- a bit and its opposite differ
 bits-differ : (b : Bool) → ¬ (pick b (pos 1) (pos 0) ≡ pick (not b) (pos 1) (pos 0))
-bits-differ true e = less-irrefl (pos 1) (subst (λ k. Less k (pos 1)) (sym e) (omega arith))
-bits-differ false e = less-irrefl (pos 1) (subst (λ k. Less k (pos 1)) e (omega arith))
+bits-differ true e = <ℤ-irrefl (subst (λ k. k <ℤ pos 1) (sym e) (ltZ-yes tt))
+bits-differ false e = <ℤ-irrefl (subst (λ k. k <ℤ pos 1) e (ltZ-yes tt))
 
 -- Two such rows with opposite bits are alike in the settled columns alone; so they obey the rules where the test says the same of equal columns.
 module _ (n : ℕ) (rs : List Rule) (w : List ℕ) (test : ℕ → Bool) (small : RulesBelow n rs) (same : (a b : ℕ) → List·Memᴰ (equal a b) rs → test a ≡ test b) where
@@ -236,10 +237,10 @@ module _ (n : ℕ) (rs : List Rule) (w : List ℕ) (test : ℕ → Bool) (small 
       ∙ sym (row-cell n rs w (λ d. bits (test d)) b (small (equal a b) m b (List·Memᴰ·tail (List·Memᴰ·head refl))))
 
   opposite-obey : ObeysAll rs (row n rs w test ∷ row n rs w (λ d. not (test d)) ∷ [])
-  opposite-obey (equal a b) m = all-pair (λ x. cell x a ≡ cell x b) (row-equal (λ t. t) m) (row-equal not m)
+  opposite-obey (equal a b) m = all-two (λ x. cell x a ≡ cell x b) (row-equal (λ t. t) m) (row-equal not m)
   opposite-obey (fix l r) m = λ x y i j.
-      all-pair (λ u. Fixed u y) (all-pair (Fixed (row n rs w test)) (λ h. refl) (λ h. alone h) y j)
-      (all-pair (Fixed (row n rs w (λ d. not (test d)))) (λ h. sym (alone (λ c k. sym (h c k)))) (λ h. refl) y j) x i
+      all-two (λ u. Fixed u y) (all-two (Fixed (row n rs w test)) (λ h. refl) (λ h. alone h) y j)
+      (all-two (Fixed (row n rs w (λ d. not (test d)))) (λ h. sym (alone (λ c k. sym (h c k)))) (λ h. refl) y j) x i
     where
       Fixed : Row → Row → Type 0
       Fixed x y = ((c : ℕ) → List·Memᴰ c l → cell x c ≡ cell y c) → cell x r ≡ cell y r
@@ -248,15 +249,15 @@ module _ (n : ℕ) (rs : List Rule) (w : List ℕ) (test : ℕ → Bool) (small 
       alone h = rows-agree n rs w test (λ d. not (test d)) r (fixed m (λ c k. alike-settles c (small (fix l r) m c (List·Memᴰ·tail k)) (h c k)))
 
 -- where the test stops, the rows with the bits of the entry's class and their opposites
-pub stop-pair : (n : ℕ) (rs : List Rule) (p o : Order) → ((c : ℕ) → List·Memᴰ c (columns p) → c < n) → ((c : ℕ) → List·Memᴰ c (columns o) → c < n)
+pub stop-rows : (n : ℕ) (rs : List Rule) (p o : Order) → ((c : ℕ) → List·Memᴰ c (columns p) → c < n) → ((c : ℕ) → List·Memᴰ c (columns o) → c < n)
     → RulesBelow n rs → (w : List ℕ) (c : ℕ) → Stop rs w c p o → Counterexample n rs p o (row n rs w (alike rs c)) (row n rs w (λ d. not (alike rs c d)))
-stop-pair n rs p o pn on small w c s =
+stop-rows n rs p o pn on small w c s =
     record {
       one-width = entry-count (λ d. value (settled rs w d) (class d)) 0 n;
       two-width = entry-count (λ d. value (settled rs w d) (not (class d))) 0 n;
       one-values = row-values n rs w class;
       two-values = row-values n rs w (λ d. not (class d));
-      stands = pair-stands one two p (s .stuck two one agree above);
+      stands = two-stand one two p (s .stuck two one agree above);
       obeys = opposite-obey n rs w class small (λ a b m. equal-settled (c ∷ []) (those-member isEqual rs m refl));
       breaks = λ st. st 0 1 (omega arith) (omega arith) (s .below two one agree lower);
     }
@@ -274,21 +275,21 @@ stop-pair n rs p o pn on small w c s =
     agree = rows-agree n rs w (λ d. not (class d)) class
 
     -- the entry's column: the first row has 1, the second 0
-    lower : Less (cell two c) (cell one c)
+    lower : cell two c <ℤ cell one c
     lower =
         let l = on c (s .named) in
         let t = true-says (says-settled (those isEqual rs) (c ∷ []) c) (among (List·Memᴰ·head refl)) in
-        rw (row-open n rs w (λ d. not (class d)) c l (s .unsettled), row-open n rs w class c l (s .unsettled), t) (omega arith)
+        rw (row-open n rs w (λ d. not (class d)) c l (s .unsettled), row-open n rs w class c l (s .unsettled), t) (ltZ-yes tt)
 
     -- a column neither settled nor of its class: the first row has 0, the second 1
     above : (d : ℕ) → List·Memᴰ d (columns p) → ¬ Settled rs w d → ¬ Settled (those isEqual rs) (c ∷ []) d → Above two one d
     above d m f g =
         let t = false-says (says-settled (those isEqual rs) (c ∷ []) d) g in
         rw (row-open n rs w (λ e. not (class e)) d (pn d m) f, row-open n rs w class d (pn d m) f, t)
-        (λ h. ⊎-elim (λ l. let z : ⊥ = omega arith in absurd z) (bits-differ true) h)
+        (λ h. ⊎-elim (λ l. l .lt) (bits-differ true) h)
 
 -- Where the closure test says no, two rows of 0 and 1 show it.
-pub fails-pair : (n : ℕ) (rs : List Rule) (p o : Order) → ((c : ℕ) → List·Memᴰ c (columns p) → c < n) → ((c : ℕ) → List·Memᴰ c (columns o) → c < n)
+pub fails-rows : (n : ℕ) (rs : List Rule) (p o : Order) → ((c : ℕ) → List·Memᴰ c (columns p) → c < n) → ((c : ℕ) → List·Memᴰ c (columns o) → c < n)
     → RulesBelow n rs → isHeld rs p o ≡ false → Broken n rs p o
 unfolding isHeld
-fails-pair n rs p o pn on small k = let s = stop rs [] p o k in (_, _, stop-pair n rs p o pn on small (s .0) (s .1) (s .3))
+fails-rows n rs p o pn on small k = let s = stop rs [] p o k in (_, _, stop-rows n rs p o pn on small (s .0) (s .1) (s .3))

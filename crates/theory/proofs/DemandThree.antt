@@ -7,11 +7,11 @@ use mathlib.Core.List.{List, _∷_}
 use lib.ListN.{length}
 use Rattle.theory.specs.Limits.{maxProduced, maxTested, maxSets, scratchLength}
 use Rattle.theory.specs.Orders.{Order}
-use Rattle.theory.specs.Construction.{sizesOf}
+use Rattle.theory.specs.Construction.{sizesOfQuery}
 use Rattle.theory.specs.Refusals.{passed}
 use Rattle.theory.specs.Query.{Bytes, readQuery, queryRefusal}
 use Rattle.theory.specs.Table.{Table, writeTable, tableRefusal, readTable}
-use Rattle.theory.specs.Build.{table, Constructs, queryTable, Outcome, refused, built, outcome, Means, query-refused, scratch-short, not-constructed, output-short, table-built}
+use Rattle.theory.specs.Build.{table, Constructs, queryTable, Outcome, refused, built, outcome, OutcomeMeans, query-refused, scratch-short, not-constructed, output-short, table-built}
 use Rattle.theory.specs.Lookups.{Lookup, entry, run, Answers, Faithful}
 use Rattle.theory.proofs.RowTheorem.{row-theorem}
 use Rattle.theory.proofs.QueryLaws.{query-sizes, produced-count, tested-count, set-count}
@@ -23,7 +23,7 @@ use Rattle.theory.proofs.LookupLaw.{lookup-law}
 use Rattle.theory.proofs.ConstructionLaws.{Made, made, made-sized, made-faithful, made-passes}
 
 -- the sizes of a query that passed checks 1 to 6 are within their limits
-pub query-limited : (query : Bytes) → queryRefusal query ≡ passed → Limited (sizesOf (readQuery query))
+pub query-limited : (query : Bytes) → queryRefusal query ≡ passed → Limited (sizesOfQuery (readQuery query))
 query-limited query c =
     let sizes = query-sizes query c in
     record {
@@ -48,7 +48,7 @@ built-when {P} query scratch output t follows e = go (outcome-means query scratc
     never : {m : ℕ} → refused m ≡ built t → P
     never d = let z : _≡_ {A = ℕ} 0 1 = cc in let f : ⊥ = omega arith in absurd f
 
-    go : {r : Outcome} → Means query scratch output r → r ≡ built t → P
+    go : {r : Outcome} → OutcomeMeans query scratch output r → r ≡ built t → P
     go (query-refused _) d = never d
     go (scratch-short _ _) d = never d
     go (not-constructed _ _ _) d = never d

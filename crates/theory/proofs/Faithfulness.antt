@@ -16,12 +16,12 @@ use Rattle.theory.specs.Orders.{Query, interesting, After}
 use Rattle.theory.specs.Refusals.{passed, firstRefusal, firstOf}
 use Rattle.theory.specs.Machine.{Machine, SameAnswers}
 use Rattle.theory.specs.Query.{Bytes, byteAt, outside}
-use Rattle.theory.specs.Construction.{sizesOf}
+use Rattle.theory.specs.Construction.{sizesOfQuery}
 use Rattle.theory.specs.Table.{Table, Sized, Numbered, tableOf, numbersOf, machineIn, writeTable, statesIn, producedIn, testedIn, setsIn, sizesIn, startIn, successorsBase, successorIn, stateRefusal, formRefusal, startsRefusal, successorsRefusal, heldRefusal, tableRefusal}
 use Rattle.theory.specs.Lookups.{Tells, Faithful}
 use Rattle.theory.proofs.RefusalLaws.{or-passed, first-passed, refused-then, refused-else, neither}
 use Rattle.theory.proofs.MachineLaws.{Inside}
-use Rattle.theory.proofs.PairLaws.{same-sym}
+use Rattle.theory.proofs.JointLaws.{same-sym}
 use Rattle.theory.proofs.TableLaws.{written-check}
 use Rattle.theory.proofs.MachineTable.{Limited, Enumerated, table-sized, table-numbered, numbers-answer, bytes-answer}
 
@@ -86,27 +86,27 @@ passed-faithful q t e produced tested sets tells =
     }
 
 -- A machine that answers as another tells the derivation where that one does.
-pub same-tells : {X Y : Type 0} (q : Query) (m : Machine X) (k : Machine Y) → SameAnswers (sizesOf q) m k → Tells q m → Tells q k
+pub same-tells : {X Y : Type 0} (q : Query) (m : Machine X) (k : Machine Y) → SameAnswers (sizesOfQuery q) m k → Tells q m → Tells q k
 same-tells q m k same tells p i ss h b l =
     subst (λ held. Says (After q (getD (q .produced) p []) ss (getD (interesting q) i [])) (getD held i false)) (same p ss h b) (tells p i ss h b l)
 
 -- The table of a machine that tells a query's derivation is faithful to the query, and passes the table check.
-module _ {X : Type 0} (q : Query) (m : Machine X) (xs : List X) (limits : Limited (sizesOf q)) (known : Enumerated m (sizesOf q) xs) where
+module _ {X : Type 0} (q : Query) (m : Machine X) (xs : List X) (limits : Limited (sizesOfQuery q)) (known : Enumerated m (sizesOfQuery q) xs) where
   abbrev made : Table
-  made = tableOf m (sizesOf q) xs
+  made = tableOf m (sizesOfQuery q) xs
 
   sized : Sized made
-  sized = table-sized m (sizesOf q) xs limits known
+  sized = table-sized m (sizesOfQuery q) xs limits known
 
   closed : Numbered made
-  closed = table-numbered m (sizesOf q) xs limits known
+  closed = table-numbered m (sizesOfQuery q) xs limits known
 
   pub table-passes : tableRefusal (writeTable made) ≡ passed
   table-passes = written-check made sized closed
 
   -- its numbers tell the derivation, ..
   pub numbers-tell : Tells q m → Tells q (numbersOf made)
-  numbers-tell = same-tells q m (numbersOf made) (same-sym (sizesOf q) (numbersOf made) m (numbers-answer m (sizesOf q) xs limits known))
+  numbers-tell = same-tells q m (numbersOf made) (same-sym (sizesOfQuery q) (numbersOf made) m (numbers-answer m (sizesOfQuery q) xs limits known))
 
   -- .. and so do its bytes
 
@@ -114,4 +114,4 @@ module _ {X : Type 0} (q : Query) (m : Machine X) (xs : List X) (limits : Limite
   unfolding tableOf writeTable
   faithful-table tells =
       passed-faithful q (writeTable made) table-passes refl refl refl
-      (same-tells q (numbersOf made) (machineIn (writeTable made)) (same-sym (sizesOf q) (machineIn (writeTable made)) (numbersOf made) (bytes-answer made sized closed)) (numbers-tell tells))
+      (same-tells q (numbersOf made) (machineIn (writeTable made)) (same-sym (sizesOfQuery q) (machineIn (writeTable made)) (numbersOf made) (bytes-answer made sized closed)) (numbers-tell tells))

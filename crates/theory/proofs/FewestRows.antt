@@ -13,8 +13,8 @@ use Rattle.theory.specs.Limits.{maxStates}
 use Rattle.theory.specs.Orders.{Query, WellFormed}
 use Rattle.theory.specs.Machine.{Machine, AllBelow, runs, numberedWithin, Reduced, SameAnswers}
 use Rattle.theory.specs.AnswerTree.{AnswerTree}
-use Rattle.theory.specs.Closure.{More}
-use Rattle.theory.specs.Construction.{sizesOf, answersOf, State, Pair, ShareRow}
+use Rattle.theory.specs.NumberingWalk.{More}
+use Rattle.theory.specs.Construction.{sizesOfQuery, answersOf, State, Pair, ShareRow}
 use Rattle.theory.specs.Refusals.{passed}
 use Rattle.theory.specs.Query.{Bytes, readQuery}
 use Rattle.theory.specs.Table.{tableOf, numbersOf, machineIn, statesIn, writeTable, tableRefusal}
@@ -24,7 +24,7 @@ use Rattle.theory.specs.Verification.{verifyRefusal}
 use Rattle.theory.proofs.MachineLaws.{Inside, reached-start, reached-runs}
 use Rattle.theory.proofs.Reflect.{says-one}
 use Rattle.theory.proofs.PositionLaws.{position-bound, position-reads}
-use Rattle.theory.proofs.PairLaws.{Covers, covers-after, covers-reduced}
+use Rattle.theory.proofs.JointLaws.{Covers, covers-after, covers-reduced}
 use Rattle.theory.proofs.MachineTable.{Limited, bytes-cover}
 use Rattle.theory.proofs.ReadLaws.{query-formed}
 use Rattle.theory.proofs.Faithfulness.{table-checked}
@@ -41,7 +41,7 @@ module _ {query t : Bytes} (b : Built query t) where
   abbrev q : Query
   q = readQuery query
 
-  limits : Limited (sizesOf q)
+  limits : Limited (sizesOfQuery q)
   limits = query-limited query (b .checked)
 
   formed : WellFormed q
@@ -56,14 +56,14 @@ module _ {query t : Bytes} (b : Built query t) where
   built-count = rows-written ∙ made-count limits (b .made)
 
   -- the bytes say the table's numbers
-  written-cover : Covers (sizesOf q) (numbersOf (b .contents)) (machineIn t) (λ x. x)
+  written-cover : Covers (sizesOfQuery q) (numbersOf (b .contents)) (machineIn t) (λ x. x)
   written-cover =
-      subst (λ k. Covers (sizesOf q) (numbersOf (b .contents)) (machineIn k) (λ x. x)) (sym (b .bytes-are))
+      subst (λ k. Covers (sizesOfQuery q) (numbersOf (b .contents)) (machineIn k) (λ x. x)) (sym (b .bytes-are))
       (subst (λ z. Covers z (numbersOf (b .contents)) (machineIn (writeTable (b .contents))) (λ x. x)) (made-sizes limits (b .made))
       (bytes-cover (b .contents) (made-sized limits (b .made)) (made-numbered limits (b .made))))
 
   -- No two rows that are reached are alike.
-  pub built-reduced : Reduced (sizesOf q) (machineIn t)
+  pub built-reduced : Reduced (sizesOfQuery q) (machineIn t)
   built-reduced = covers-reduced (numbersOf (b .contents)) (machineIn t) written-cover (made-reduced limits (b .made))
 
   -- The row at which a run of sets arrives is the number of its state.
@@ -92,8 +92,8 @@ module _ {query t : Bytes} (b : Built query t) where
       )
 
   -- Every reduced machine with the same answers has the same table.
-  pub built-only : {X : Type 0} (k : Machine X) → Decides (k .same) → Reduced (sizesOf q) k → length (numberedWithin k maxStates (sizesOf q)) ≤ maxStates →
-      SameAnswers (sizesOf q) (numbersOf (b .contents)) k → t ≡ writeTable (tableOf k (sizesOf q) (numberedWithin k maxStates (sizesOf q)))
+  pub built-only : {X : Type 0} (k : Machine X) → Decides (k .same) → Reduced (sizesOfQuery q) k → length (numberedWithin k maxStates (sizesOfQuery q)) ≤ maxStates →
+      SameAnswers (sizesOfQuery q) (numbersOf (b .contents)) k → t ≡ writeTable (tableOf k (sizesOfQuery q) (numberedWithin k maxStates (sizesOfQuery q)))
   built-only k decides reduced few same = b .bytes-are ∙ ap writeTable (made-only limits (b .made) k decides reduced few same)
 
 -- Where there are too many states, no table that passes the table check has the query's answers.
@@ -103,9 +103,9 @@ eight-none q formed e t passes f =
     let c = table-checked t passes in
     let m = many (subst (Constructs q) e (construct-means q)) in
     let least =
-    smallest (sizesOf q) (answersOf q) (states-reduced q) (machineIn t) (statesIn t) (subst (λ z. Inside (machineIn t) z (statesIn t)) (sizes-are q t sizes) (c .inside))
+    smallest (sizesOfQuery q) (answersOf q) (states-reduced q) (machineIn t) (statesIn t) (subst (λ z. Inside (machineIn t) z (statesIn t)) (sizes-are q t sizes) (c .inside))
     (λ p ss h b.
-    let w = held-wide q _ (reached-runs (answersOf q) (sizesOf q) ss b (answersOf q .start p) (reached-start (answersOf q) (sizesOf q) p h)) ∙ sym (length-append (q .produced) (q .tested)) in
+    let w = held-wide q _ (reached-runs (answersOf q) (sizesOfQuery q) ss b (answersOf q .start p) (reached-start (answersOf q) (sizesOfQuery q) p h)) ∙ sym (length-append (q .produced) (q .tested)) in
     ext-getD false _ _ (w ∙ sym (their-width q t sizes (runs (machineIn t) (machineIn t .start p) ss)))
     (λ i l. let k = subst (λ n. i < n) w l in says-one (answers-tell q formed p i ss h b k) (f .tells p i ss h b k)))
     (m .things) (m .different) (m .each) in

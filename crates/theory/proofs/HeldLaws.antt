@@ -9,7 +9,7 @@ use Rattle.theory.specs.Orders.{Order, columns, Rule, Columns, RulesBelo
 use Rattle.theory.specs.Rows.{Broken, HoldsOfRows}
 use Rattle.theory.specs.Settled.{isHeld, Exact}
 use Rattle.theory.proofs.RowTheorem.{row-theorem}
-use Rattle.theory.proofs.CounterexampleLaws.{fails-pair}
+use Rattle.theory.proofs.CounterexampleLaws.{fails-rows}
 use Rattle.theory.proofs.DerivedLaws.{passes-derived}
 
 -- what is true of all rows is true of two
@@ -25,5 +25,5 @@ held-exactly n rs p o cp co below = go (isHeld rs p o) refl
         let r = row-theorem rs p o d in
         record { derived = holds d; rows = holds r; shown = fails (not-shown r) }
     go false e =
-        let c = fails-pair n rs p o (cp .below) (co .below) below e in
+        let c = fails-rows n rs p o (cp .below) (co .below) below e in
         record { derived = fails (λ d. not-shown (row-theorem rs p o d) c); rows = fails (λ r. not-shown r c); shown = holds c }

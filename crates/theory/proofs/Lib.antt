@@ -2,7 +2,7 @@
 pub mod Reflect
 pub mod ListLaws
 pub mod PositionLaws
-pub mod ClosureLaws
+pub mod NumberingWalkLaws
 pub mod MachineLaws
 pub mod RuleLaws
 pub mod ChoiceLaws
@@ -20,7 +20,7 @@ pub mod RefusalLaws
 pub mod RowLaws
 pub mod RangeLaws
 pub mod BitLaws
-pub mod PairLaws
+pub mod JointLaws
 pub mod QueryLaws
 pub mod PassedLaws
 pub mod ReadLaws

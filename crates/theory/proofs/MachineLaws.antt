@@ -7,12 +7,12 @@ use mathlib.Core.List.{List, [], _∷_, _++_, map, List·Memᴰ, List·Memᴰ·h
 use lib.Dec.{ltb}
 use lib.ListN.{length}
 use Rattle.theory.specs.Tests.{Says, Decides, Distinct, upFrom}
-use Rattle.theory.specs.Closure.{Found, first, next, More}
+use Rattle.theory.specs.NumberingWalk.{FoundFrom, first, next, More}
 use Rattle.theory.specs.Machine.{Sizes, Machine, AllBelow, runs, Reached, numberedWithin}
 use Rattle.theory.proofs.Reflect.{says-as}
 use Rattle.theory.proofs.ListLaws.{member-upFrom, upFrom-member}
 use Rattle.theory.proofs.RowLaws.{all-snoc}
-use Rattle.theory.proofs.ClosureLaws.{more-as, closure-distinct, closure-found, closure-complete, closure-many, closure-few}
+use Rattle.theory.proofs.NumberingWalkLaws.{more-as, numbering-distinct, numbering-found, numbering-complete, numbering-many, numbering-few}
 
 -- no set, one set more in front, and one more behind
 pub below-nil : (n : ℕ) → AllBelow n []
@@ -61,7 +61,7 @@ module _ {X : Type 0} (m : Machine X) where
     abbrev starts : List X
     starts = map (m .start) (upFrom zero (z .produced))
 
-    found-reached : (x : X) → Found moves starts x → Reached m z x
+    found-reached : (x : X) → FoundFrom moves starts x → Reached m z x
     found-reached x (first k) =
         let t = Memᴰ·of-map (m .start) (upFrom zero (z .produced)) k in
         let b = member-upFrom zero (z .produced) (t .1) in
@@ -71,38 +71,38 @@ module _ {X : Type 0} (m : Machine X) where
         let b = member-upFrom zero (z .sets) (t .1) in
         subst (Reached m z) (t .2) (reached-next y (t .0) (found-reached y f) (omega arith))
 
-    runs-found : (ss : List ℕ) → AllBelow (z .sets) ss → (x : X) → Found moves starts x → Found moves starts (runs m x ss)
+    runs-found : (ss : List ℕ) → AllBelow (z .sets) ss → (x : X) → FoundFrom moves starts x → FoundFrom moves starts (runs m x ss)
     runs-found [] b x f = f
     runs-found (s ∷ ss) b x f =
         runs-found ss (below-tail (z .sets) b) (m .next x s)
         (next f (Memᴰ·map (m .next x) (upFrom-member zero (z .sets) (omega arith) (let h = b s (List·Memᴰ·head refl) in omega arith))))
 
-    reached-found : (x : X) → Reached m z x → Found moves starts x
+    reached-found : (x : X) → Reached m z x → FoundFrom moves starts x
     reached-found x r =
         let h = r .produced in
-        subst (Found moves starts) (r .arrives)
+        subst (FoundFrom moves starts) (r .arrives)
         (runs-found (r .sets) (r .below) (m .start (r .order)) (first (Memᴰ·map (m .start) (upFrom-member zero (z .produced) (omega arith) (omega arith)))))
 
     module _ (decides : Decides (m .same)) (cap : ℕ) where
       -- within the limit, the list has exactly the reached states
       pub numbered-exactly : length (numberedWithin m cap z) ≤ cap → (x : X) → List·Memᴰ x (numberedWithin m cap z) ↔ Reached m z x
       unfolding numberedWithin
-      numbered-exactly few x = (λ k. found-reached x (closure-found decides moves cap starts x k), λ r. closure-complete decides moves cap starts few x (reached-found x r))
+      numbered-exactly few x = (λ k. found-reached x (numbering-found decides moves cap starts x k), λ r. numbering-complete decides moves cap starts few x (reached-found x r))
 
       -- each state once
       pub numbered-distinct : Distinct (numberedWithin m cap z)
       unfolding numberedWithin
-      numbered-distinct = closure-distinct decides moves cap starts
+      numbered-distinct = numbering-distinct decides moves cap starts
 
       -- past it exactly when there are more
       pub numbered-many : Says (More cap (Reached m z)) (ltb cap (length (numberedWithin m cap z)))
       unfolding numberedWithin
-      numbered-many = says-as (more-as found-reached) (more-as reached-found) (closure-many decides moves cap starts)
+      numbered-many = says-as (more-as found-reached) (more-as reached-found) (numbering-many decides moves cap starts)
 
       -- it is within the limit where all reached states are in a list that is
       pub numbered-few : (xs : List X) → length xs ≤ cap → ((x : X) → Reached m z x → List·Memᴰ x xs) → length (numberedWithin m cap z) ≤ cap
       unfolding numberedWithin
-      numbered-few xs h w = closure-few decides moves cap starts xs h (λ x f. w x (found-reached x f))
+      numbered-few xs h w = numbering-few decides moves cap starts xs h (λ x f. w x (found-reached x f))
 
 -- A machine whose states are numbers stays below n.
 pub record Inside (m : Machine ℕ) (z : Sizes) (n : ℕ) : Type 0 where

@@ -14,7 +14,7 @@ use Rattle.theory.proofs.ListLaws.{member-getD, member-upFrom}
 use Rattle.theory.proofs.RowLaws.{getD-map}
 use Rattle.theory.proofs.RangeLaws.{entry-of, entry-count}
 use Rattle.theory.proofs.MachineLaws.{reached-start, reached-next, Inside, reached-inside}
-use Rattle.theory.proofs.PairLaws.{same-sym, Covers, covers-same}
+use Rattle.theory.proofs.JointLaws.{same-sym, Covers, covers-same}
 use Rattle.theory.proofs.TableLaws.{written-start, written-successor, held-back}
 
 -- The sizes are within their limits.

@@ -11,7 +11,7 @@ use lib.ListN.{length, take, getD}
 use lib.Seq.{take-length}
 use borrow.Author.Count.{below-none, below-more}
 use Rattle.theory.specs.Tests.{Says, holds, fails, Decides, member, position, Distinct, also}
-use Rattle.theory.specs.Closure.{add, addAll}
+use Rattle.theory.specs.NumberingWalk.{add, addAll}
 use Rattle.theory.proofs.Reflect.{says-member, says-ltb, says-as, says-one, true-says, false-says}
 use Rattle.theory.proofs.ListLaws.{member-getD, Within}
 use Rattle.theory.proofs.RowLaws.{all-append}

@@ -1,27 +1,23 @@
 -- Document 01, "Orders, dependencies, derivation", on rows: rows that stand in the produced order and obey the rules stand in every ordering derived from it.
 use Prim.Native.Nat.{ℕ}
-use native.Mathlib.Nat.{lt-irrefl, lt-trans}
+use native.Mathlib.Nat.{lt-trans}
 use mathlib.Core.Path.{_≡_, sym, _∙_, subst}
 use mathlib.Core.Logic.{_⊎_, inl, inr, ⊎-elim}
 use mathlib.Core.List.{List, [], _∷_, _++_, append-nil, List·Memᴰ, List·Memᴰ·not-nil, List·Memᴰ·cases-cons}
-use lib.IntN.{ℤ, pos, negsuc}
+use lib.IntN.{ℤ}
+use lib.Signed.{_<ℤ_, <ℤ-irrefl}
 use lib.ListN.{getD}
 use Rattle.theory.specs.Orders.{Order, columns, Orderings, Rule, fix, equal, Same, Given, by-fix, by-equal, Change, shorten, insert, before, instead, remove, Step, at, Reach, given, step, Start, Derived}
-use Rattle.theory.specs.Rows.{Less, Row, cell, Below, Stands, ObeysAll, HoldsOfRows}
+use Rattle.theory.specs.Rows.{Row, cell, Below, Stands, ObeysAll, HoldsOfRows}
 use Rattle.theory.proofs.ListLaws.{member-getD}
-
--- no whole number is less than itself
-pub less-irrefl : (k : ℤ) → ¬ Less k k
-less-irrefl (pos n) = lt-irrefl n
-less-irrefl (negsuc n) = lt-irrefl n
 
 -- the first value is less, or the two are one and what follows holds: one column of a comparison
 abbrev Column : ℤ → ℤ → Type 0 → Type 0
-Column u v B = Less u v ⊎ ((u ≡ v) × B)
+Column u v B = (u <ℤ v) ⊎ ((u ≡ v) × B)
 
 -- a column with one value says nothing
 pub column-skip : {u v : ℤ} {B : Type 0} → u ≡ v → Column u v B → B
-column-skip {v} e (inl l) = absurd (less-irrefl v (rw e at l))
+column-skip e (inl l) = absurd (<ℤ-irrefl (rw e at l))
 column-skip e (inr h) = h .1
 
 -- a column may stand for one with the same values

@@ -13,7 +13,7 @@ use Rattle.theory.proofs.ListLaws.{distinct-length, upFrom-member, upFr
 use Rattle.theory.proofs.RowLaws.{all-append, all-cons}
 use Rattle.theory.proofs.PositionLaws.{position-map, addAll-distinct}
 use Rattle.theory.proofs.MachineLaws.{reached-start, reached-next, reached-runs, numbered-exactly, numbered-distinct, numbered-few, Inside, inside-after}
-use Rattle.theory.proofs.PairLaws.{runs-both, decides-both, arrives-both, same-together}
+use Rattle.theory.proofs.JointLaws.{runs-both, decides-both, arrives-both, same-together}
 use Rattle.theory.proofs.WalkImage.{images, numbered-image}
 use Rattle.theory.proofs.RangeLaws.{map-below}
 
@@ -73,10 +73,10 @@ module _ {W X : Type 0} (z : Sizes) (w : Machine W) (m : Machine X) (f : W → X
     (starts : (p : ℕ) → p < z .produced → f (w .start p) ≡ m .start p) (nexts : (x : W) (s : ℕ) → Reached w z x → s < z .sets → f (w .next x s) ≡ m .next (f x) s)
     (told : (x y : W) → Reached w z x → Reached w z y → f x ≡ f y → x ≡ y)
     (cap cap′ : ℕ) (few : length (numberedWithin w cap z) ≤ cap) (few′ : length (numberedWithin m cap′ z) ≤ cap′) where
-  abbrev pairs : List W
-  pairs = numberedWithin w cap z
+  abbrev joints : List W
+  joints = numberedWithin w cap z
 
-  reached : (x : W) → List·Memᴰ x pairs → Reached w z x
+  reached : (x : W) → List·Memᴰ x joints → Reached w z x
   reached x i = numbered-exactly w z decW cap few x .0 i
 
   image-reached : (x : W) → Reached w z x → Reached m z (f x)
@@ -89,56 +89,56 @@ module _ {W X : Type 0} (z : Sizes) (w : Machine W) (m : Machine X) (f : W → X
           let h = b s (List·Memᴰ·head refl) in
           ap (λ y. runs m y ss) (sym (nexts x s u h)) ∙ arrives ss (λ r i. b r (List·Memᴰ·tail i)) (w .next x s) (reached-next w z x s u h)
 
-  different : Distinct (map f pairs)
+  different : Distinct (map f joints)
   different = distinct-map f (numbered-distinct w z decW cap) (λ x y i j. told x y (reached x i) (reached y j))
 
-  all-images : images decW decM f pairs ≡ map f pairs
-  all-images = addAll-distinct decM (map f pairs) [] different (λ x i. List·Memᴰ·not-nil)
+  all-images : images decW decM f joints ≡ map f joints
+  all-images = addAll-distinct decM (map f joints) [] different (λ x i. List·Memᴰ·not-nil)
 
-  images-few : length (images decW decM f pairs) ≤ cap′
+  images-few : length (images decW decM f joints) ≤ cap′
   images-few =
       omega (
         arith,
         ap length all-images,
-        distinct-length (map f pairs) (numberedWithin m cap′ z) different
-            (λ y i. let r = Memᴰ·of-map f pairs i in subst (λ v. List·Memᴰ v (numberedWithin m cap′ z)) (r .2) (numbered-exactly m z decM cap′ few′ (f (r .0)) .1 (image-reached (r .0) (reached (r .0) (r .1))))),
+        distinct-length (map f joints) (numberedWithin m cap′ z) different
+            (λ y i. let r = Memᴰ·of-map f joints i in subst (λ v. List·Memᴰ v (numberedWithin m cap′ z)) (r .2) (numbered-exactly m z decM cap′ few′ (f (r .0)) .1 (image-reached (r .0) (reached (r .0) (r .1))))),
       )
 
-  pub numbered-by : numberedWithin m cap′ z ≡ map f pairs
+  pub numbered-by : numberedWithin m cap′ z ≡ map f joints
   numbered-by = numbered-image z w m f cap cap′ decW decM starts nexts few images-few ∙ all-images
 
-  number-by : (x : W) → Reached w z x → position (m .same) (f x) (map f pairs) ≡ position (w .same) x pairs
-  number-by x r = position-map decW decM f x pairs (λ y i. told x y r (reached y i))
+  number-by : (x : W) → Reached w z x → position (m .same) (f x) (map f joints) ≡ position (w .same) x joints
+  number-by x r = position-map decW decM f x joints (λ y i. told x y r (reached y i))
 
-  pub table-by : tableOf m z (numberedWithin m cap′ z) ≡ tableOf (holding w (λ x. m .held (f x))) z pairs
+  pub table-by : tableOf m z (numberedWithin m cap′ z) ≡ tableOf (holding w (λ x. m .held (f x))) z joints
   unfolding tableOf
   table-by = ap (tableOf m z) numbered-by ∙ (λ i.
       record {
-        stateCount = length-map pairs f i;
+        stateCount = length-map joints f i;
         producedCount = z .produced;
         testedCount = z .tested;
         setCount = z .sets;
         starts = first i;
         successors = rows i;
-        held = map-map (λ x. m .held x) f pairs i;
+        held = map-map (λ x. m .held x) f joints i;
       })
     where
-      first : map (λ p. position (m .same) (m .start p) (map f pairs)) (upFrom 0 (z .produced)) ≡ map (λ p. position (w .same) (w .start p) pairs) (upFrom 0 (z .produced))
+      first : map (λ p. position (m .same) (m .start p) (map f joints)) (upFrom 0 (z .produced)) ≡ map (λ p. position (w .same) (w .start p) joints) (upFrom 0 (z .produced))
       first =
-          map-below (λ p. position (m .same) (m .start p) (map f pairs)) (λ p. position (w .same) (w .start p) pairs) 0 (z .produced)
-          (λ p h. ap (λ y. position (m .same) y (map f pairs)) (sym (starts p h)) ∙ number-by (w .start p) (reached-start w z p h))
+          map-below (λ p. position (m .same) (m .start p) (map f joints)) (λ p. position (w .same) (w .start p) joints) 0 (z .produced)
+          (λ p h. ap (λ y. position (m .same) y (map f joints)) (sym (starts p h)) ∙ number-by (w .start p) (reached-start w z p h))
 
-      rows : map (λ y. map (λ s. position (m .same) (m .next y s) (map f pairs)) (upFrom 0 (z .sets))) (map f pairs)
-          ≡ map (λ x. map (λ s. position (w .same) (w .next x s) pairs) (upFrom 0 (z .sets))) pairs
+      rows : map (λ y. map (λ s. position (m .same) (m .next y s) (map f joints)) (upFrom 0 (z .sets))) (map f joints)
+          ≡ map (λ x. map (λ s. position (w .same) (w .next x s) joints) (upFrom 0 (z .sets))) joints
       rows =
-          map-map (λ y. map (λ s. position (m .same) (m .next y s) (map f pairs)) (upFrom 0 (z .sets))) f pairs
-          ∙ map-members _ _ pairs
+          map-map (λ y. map (λ s. position (m .same) (m .next y s) (map f joints)) (upFrom 0 (z .sets))) f joints
+          ∙ map-members _ _ joints
           (λ x i.
-          map-below (λ s. position (m .same) (m .next (f x) s) (map f pairs)) (λ s. position (w .same) (w .next x s) pairs) 0 (z .sets)
-          (λ s h. ap (λ y. position (m .same) y (map f pairs)) (sym (nexts x s (reached x i) h)) ∙ number-by (w .next x s) (reached-next w z x s (reached x i) h)))
+          map-below (λ s. position (m .same) (m .next (f x) s) (map f joints)) (λ s. position (w .same) (w .next x s) joints) 0 (z .sets)
+          (λ s h. ap (λ y. position (m .same) y (map f joints)) (sym (nexts x s (reached x i) h)) ∙ number-by (w .next x s) (reached-next w z x s (reached x i) h)))
 
 module _ {X Y : Type 0} (z : Sizes) (m : Machine X) (k : Machine Y) (decM : Decides (m .same)) (decK : Decides (k .same)) (same : SameAnswers z m k) where
-  -- the two states of a pair that is reached hold the same after every run
+  -- the two states of a joint state that is reached hold the same after every run
   held-together : (x : X × Y) → Reached (both m k) z x → (ss : List ℕ) → AllBelow (z .sets) ss → m .held (runs m (x .0) ss) ≡ k .held (runs k (x .1) ss)
   held-together x r ss b =
       same-together m k z same (runs m (x .0) ss, runs k (x .1) ss) (subst (Reached (both m k) z) (runs-both m k ss (x .0) (x .1)) (reached-runs (both m k) z ss b x r))
@@ -149,7 +149,7 @@ module _ {X Y : Type 0} (z : Sizes) (m : Machine X) (k : Machine Y) (decM : Deci
   reached-right : (x : X × Y) → Reached (both m k) z x → Reached k z (x .1)
   reached-right x r = record { order = r .order; produced = r .produced; sets = r .sets; below = r .below; arrives = ap (λ y. y .1) (arrives-both m k z x r) }
 
-  -- so where both are reduced, either state tells the pair
+  -- so where both are reduced, either state tells the joint state
   told-left : Reduced z k → (x y : X × Y) → Reached (both m k) z x → Reached (both m k) z y → x .0 ≡ y .0 → x ≡ y
   told-left reduced x y r u e =
       ap₂ (λ a b. (a, b)) e
@@ -167,8 +167,8 @@ module _ {X Y : Type 0} (z : Sizes) (m : Machine X) (k : Machine Y) (decM : Deci
     decW : Decides (both m k .same)
     decW = decides-both m k decM decK
 
-    all-pairs : length (numberedWithin (both m k) (cap * cap) z) ≤ cap * cap
-    all-pairs =
+    all-joints : length (numberedWithin (both m k) (cap * cap) z) ≤ cap * cap
+    all-joints =
         let xs = numberedWithin m cap z in
         let ys = numberedWithin k cap z in
         numbered-few (both m k) z decW (cap * cap) (products xs ys) (subst (λ n. n ≤ cap * cap) (sym (products-length xs ys)) (mul-le-mul few few′))
@@ -178,17 +178,17 @@ module _ {X Y : Type 0} (z : Sizes) (m : Machine X) (k : Machine Y) (decM : Deci
     pub one-table : tableOf m z (numberedWithin m cap z) ≡ tableOf k z (numberedWithin k cap z)
     unfolding tableOf
     one-table =
-        table-by z (both m k) m (λ x. x .0) decW decM (λ p h. refl) (λ x s r h. refl) (told-left reduced′) (cap * cap) cap all-pairs few
-        ∙ ap (λ (held : List (List Bool)). record { stateCount = length pair-list; producedCount = z .produced; testedCount = z .tested; setCount = z .sets; starts = started; successors = followed; held = held })
-        (map-members (λ x. m .held (x .0)) (λ x. k .held (x .1)) pair-list
-        (λ x i. held-together x (numbered-exactly (both m k) z decW (cap * cap) all-pairs x .0 i) [] (λ s j. absurd (List·Memᴰ·not-nil j))))
-        ∙ sym (table-by z (both m k) k (λ x. x .1) decW decK (λ p h. refl) (λ x s r h. refl) (told-right reduced) (cap * cap) cap all-pairs few′)
+        table-by z (both m k) m (λ x. x .0) decW decM (λ p h. refl) (λ x s r h. refl) (told-left reduced′) (cap * cap) cap all-joints few
+        ∙ ap (λ (held : List (List Bool)). record { stateCount = length joint-list; producedCount = z .produced; testedCount = z .tested; setCount = z .sets; starts = started; successors = followed; held = held })
+        (map-members (λ x. m .held (x .0)) (λ x. k .held (x .1)) joint-list
+        (λ x i. held-together x (numbered-exactly (both m k) z decW (cap * cap) all-joints x .0 i) [] (λ s j. absurd (List·Memᴰ·not-nil j))))
+        ∙ sym (table-by z (both m k) k (λ x. x .1) decW decK (λ p h. refl) (λ x s r h. refl) (told-right reduced) (cap * cap) cap all-joints few′)
       where
-        pair-list : List (X × Y)
-        pair-list = numberedWithin (both m k) (cap * cap) z
+        joint-list : List (X × Y)
+        joint-list = numberedWithin (both m k) (cap * cap) z
 
         started : List ℕ
-        started = map (λ p. position (both m k .same) (both m k .start p) pair-list) (upFrom 0 (z .produced))
+        started = map (λ p. position (both m k .same) (both m k .start p) joint-list) (upFrom 0 (z .produced))
 
         followed : List (List ℕ)
-        followed = map (λ x. map (λ s. position (both m k .same) (both m k .next x s) pair-list) (upFrom 0 (z .sets))) pair-list
+        followed = map (λ x. map (λ s. position (both m k .same) (both m k .next x s) joint-list) (upFrom 0 (z .sets))) joint-list

@@ -9,10 +9,10 @@ use lib.ListN.{length, getD, length-map, length-append}
 use lib.Seq.{ext-getD}
 use Rattle.theory.specs.Tests.{Says, Distinct, empty, also}
 use Rattle.theory.specs.Orders.{Query, interesting, WellFormed, After}
-use Rattle.theory.specs.Closure.{More}
+use Rattle.theory.specs.NumberingWalk.{More}
 use Rattle.theory.specs.Machine.{AllBelow, runs}
 use Rattle.theory.specs.AnswerTree.{AnswerTree}
-use Rattle.theory.specs.Construction.{sizesOf, answersOf, State, Pair, ShareRow, Apart, nothing, further, MorePairs}
+use Rattle.theory.specs.Construction.{sizesOfQuery, answersOf, State, Pair, ShareRow, Apart, nothing, further, MorePairs}
 use Rattle.theory.proofs.Reflect.{says-true, true-says, says-one, says-as}
 use Rattle.theory.proofs.RowLaws.{all-cons}
 use Rattle.theory.proofs.MachineLaws.{runs-append, reached-runs}
@@ -35,7 +35,7 @@ module _ (q : Query) (formed : WellFormed q) where
       (answers-tell q formed (x .order) i (x .sets ++ ss) (x .produced) (λ s m. ⊎-elim (x .below s) (b s) (List·Memᴰ·append-cases (x .sets) m)) l)
 
   width : (x : Pair q) (ss : List ℕ) → AllBelow (q .sets) ss → length (answersOf q .held (runs (answersOf q) (stateOf x) ss)) ≡ length (interesting q)
-  width x ss b = held-wide q _ (reached-runs (answersOf q) (sizesOf q) ss b (stateOf x) (has-state x)) ∙ sym (length-append (q .produced) (q .tested))
+  width x ss b = held-wide q _ (reached-runs (answersOf q) (sizesOfQuery q) ss b (stateOf x) (has-state x)) ∙ sym (length-append (q .produced) (q .tested))
 
   -- Two pairs share a row exactly when their states are one.
   pub share-same : (x y : Pair q) → ShareRow q x y → stateOf x ≡ stateOf y

@@ -7,7 +7,7 @@ use mathlib.Core.Logic.{_↔_, _⊎_, inl, inr, ⊎-elim}
 use mathlib.Core.List.{List, _∷_}
 use lib.ListN.{length}
 use Rattle.theory.specs.Orders.{Order, Query}
-use Rattle.theory.specs.Construction.{sizesOf}
+use Rattle.theory.specs.Construction.{sizesOfQuery}
 use Rattle.theory.specs.Refusals.{passed, answer-refused}
 use Rattle.theory.specs.Query.{Bytes, readQuery}
 use Rattle.theory.specs.Table.{Table, machineIn, tableRefusal}
@@ -16,7 +16,7 @@ use Rattle.theory.specs.Lookups.{Lookup, entry, run, Answers, Faithful}
 use Rattle.theory.specs.Verification.{SameSizes, verifyRefusal, WrongAnswer, Buildable, Verdict, query-refused, scratch-short, not-constructed, form-refused, sizes-differ, answer-wrong, accepted}
 use Rattle.theory.proofs.RowTheorem.{row-theorem}
 use Rattle.theory.proofs.LookupLaw.{lookup-law}
-use Rattle.theory.proofs.PairLaws.{same-sym, Covers, covers-same}
+use Rattle.theory.proofs.JointLaws.{same-sym, Covers, covers-same}
 use Rattle.theory.proofs.Faithfulness.{passed-faithful, same-tells}
 use Rattle.theory.proofs.DemandThree.{built-when, built-facts, built-faithful, built-passes}
 use Rattle.theory.proofs.VerificationLaws.{wrong-unfaithful, verify-means}
@@ -92,7 +92,7 @@ module _ (query t : Bytes) (scratch : ℕ) where
 -- Where a table is accepted, so is every other whose reached states go to its states, if it passes the table check and has the sizes: one with other numbers, with
 -- rows that behave alike, or with rows that no start reaches.
 pub covering-accepted : (query t u : Bytes) (scratch : ℕ) {f : ℕ → ℕ} → verifyRefusal query t scratch ≡ passed → tableRefusal u ≡ passed → SameSizes (readQuery query) u →
-    Covers (sizesOf (readQuery query)) (machineIn u) (machineIn t) f → verifyRefusal query u scratch ≡ passed
+    Covers (sizesOfQuery (readQuery query)) (machineIn u) (machineIn t) f → verifyRefusal query u scratch ≡ passed
 covering-accepted query t u scratch e passes sizes c =
     let q = readQuery query in
     let a = accepted-facts query t scratch e in
@@ -102,5 +102,5 @@ covering-accepted query t u scratch e passes sizes c =
       passes = passes;
       faithful =
           passed-faithful q u passes (sizes .produced) (sizes .tested) (sizes .sets)
-          (same-tells q (machineIn t) (machineIn u) (same-sym (sizesOf q) (machineIn u) (machineIn t) (covers-same (machineIn u) (machineIn t) c)) (a .faithful .tells));
+          (same-tells q (machineIn t) (machineIn u) (same-sym (sizesOfQuery q) (machineIn u) (machineIn t) (covers-same (machineIn u) (machineIn t) c)) (a .faithful .tells));
     })

@@ -1,5 +1,5 @@
 -- Document 02, Req 06: what an answer about two rows tells. None is answered exactly where the derivation gives the order, which is where all rows that stand in the produced order
--- and obey the sets in force stand in it; a pair exactly where it does not.
+-- and obey the sets in force stand in it; two rows exactly where it does not.
 use Prim.Native.Nat.{ℕ, _*_, _<_}
 use native.Mathlib.Nat.{not-le-of-lt}
 use native.Mathlib.Omega.{arith}
@@ -16,7 +16,7 @@ use Rattle.theory.specs.Settled.{isHeld, Exact}
 use Rattle.theory.specs.Refusals.{passed, space-refused, handle-refused}
 use Rattle.theory.specs.Query.{Bytes, readQuery, queryRefusal}
 use Rattle.theory.specs.Table.{Answer, grant, refuse}
-use Rattle.theory.specs.Counterexamples.{Named, Askable, standing, lookedFor, rulesChosen, Derivable, Shows, query-refused, not-named, rows-short, none, pair}
+use Rattle.theory.specs.Counterexamples.{Named, Askable, standing, lookedFor, rulesChosen, Derivable, Shows, query-refused, not-named, rows-short, none, two-rows}
 use Rattle.theory.proofs.Reflect.{true-says, false-says, says-one, says-by, says-as, says-ltb, says-member, decides-number}
 use Rattle.theory.proofs.ListLaws.{member-getD, member-upFrom, upFrom-member}
 use Rattle.theory.proofs.RuleLaws.{rules-same}
@@ -64,13 +64,13 @@ module _ (query : Bytes) (produced sets order : ℕ) where
       query-exactly q (query-formed query (k .checked)) start goal (setsOf (q .sets) sets) (member-getD (q .produced) produced [] (k .named .entered))
       (member-getD (interesting q) order [] (k .named .looked-for))
 
-  -- An answer that is no refusal tells all three: none says yes, yes and no, and a pair says no, no and yes.
+  -- An answer that is no refusal tells all three: none says yes, yes and no, and two rows says no, no and yes.
   pub shows-exactly : {rows : Bytes} {a : Answer} {after : Bytes} → Shows query produced sets order rows a after → a .refusal ≡ passed → Told (eqb (a .value) 0)
   shows-exactly (query-refused f) e = absurd (f e)
   shows-exactly (not-named c f) e = let z : ⊥ = omega arith in absurd z
   shows-exactly (rows-short c n l) e = let z : ⊥ = omega arith in absurd z
   shows-exactly (none k d) e = let x = askable-exactly k in subst Told (true-says (x .derived) d) x
-  shows-exactly (pair k d one two b) e = let x = askable-exactly k in subst Told (false-says (x .derived) d) x
+  shows-exactly (two-rows k d one two b) e = let x = askable-exactly k in subst Told (false-says (x .derived) d) x
 
   -- After the same sets, in any order and however often, what says whether the order is derived says so exactly where the answer is none.
   pub none-held : {rows : Bytes} {a : Answer} {after : Bytes} → Shows query produced sets order rows a after → a .refusal ≡ passed
@@ -85,35 +85,35 @@ module _ (query : Bytes) (produced sets order : ℕ) where
   query-answered (not-named c g) f = absurd (f c)
   query-answered (rows-short c n l) f = absurd (f c)
   query-answered (none k d) f = absurd (f (k .checked))
-  query-answered (pair k d one two b) f = absurd (f (k .checked))
+  query-answered (two-rows k d one two b) f = absurd (f (k .checked))
 
   pub handle-answered : {rows : Bytes} {a : Answer} {after : Bytes} → Shows query produced sets order rows a after → queryRefusal query ≡ passed → ¬ Named q produced sets order → a ≡ refuse handle-refused
   handle-answered (query-refused f) c g = absurd (f c)
   handle-answered (not-named d f) c g = refl
   handle-answered (rows-short d n l) c g = absurd (g n)
   handle-answered (none k d) c g = absurd (g (k .named))
-  handle-answered (pair k d one two b) c g = absurd (g (k .named))
+  handle-answered (two-rows k d one two b) c g = absurd (g (k .named))
 
   pub space-answered : {rows : Bytes} {a : Answer} {after : Bytes} → Shows query produced sets order rows a after → queryRefusal query ≡ passed → Named q produced sets order → length rows < 2 * q .columns → a ≡ refuse space-refused
   space-answered (query-refused f) c n l = absurd (f c)
   space-answered (not-named d f) c n l = absurd (f n)
   space-answered (rows-short d m h) c n l = refl
   space-answered (none k d) c n l = absurd (not-le-of-lt l (k .room))
-  space-answered (pair k d one two b) c n l = absurd (not-le-of-lt l (k .room))
+  space-answered (two-rows k d one two b) c n l = absurd (not-le-of-lt l (k .room))
 
   pub none-answered : {rows : Bytes} {a : Answer} {after : Bytes} → Shows query produced sets order rows a after → Askable query produced sets order rows → Derivable q produced sets order → a ≡ grant 0
   none-answered (query-refused f) k d = absurd (f (k .checked))
   none-answered (not-named c f) k d = absurd (f (k .named))
   none-answered (rows-short c n l) k d = absurd (not-le-of-lt l (k .room))
   none-answered (none j e) k d = refl
-  none-answered (pair j e one two b) k d = absurd (e d)
+  none-answered (two-rows j e one two b) k d = absurd (e d)
 
-  pub pair-answered : {rows : Bytes} {a : Answer} {after : Bytes} → Shows query produced sets order rows a after → Askable query produced sets order rows → ¬ Derivable q produced sets order → a ≡ grant 1
-  pair-answered (query-refused f) k d = absurd (f (k .checked))
-  pair-answered (not-named c f) k d = absurd (f (k .named))
-  pair-answered (rows-short c n l) k d = absurd (not-le-of-lt l (k .room))
-  pair-answered (none j e) k d = absurd (d e)
-  pair-answered (pair j e one two b) k d = refl
+  pub two-rows-answered : {rows : Bytes} {a : Answer} {after : Bytes} → Shows query produced sets order rows a after → Askable query produced sets order rows → ¬ Derivable q produced sets order → a ≡ grant 1
+  two-rows-answered (query-refused f) k d = absurd (f (k .checked))
+  two-rows-answered (not-named c f) k d = absurd (f (k .named))
+  two-rows-answered (rows-short c n l) k d = absurd (not-le-of-lt l (k .room))
+  two-rows-answered (none j e) k d = absurd (d e)
+  two-rows-answered (two-rows j e one two b) k d = refl
 
   -- .. so there is one answer.
   pub one-answer : {rows : Bytes} {a b : Answer} {after later : Bytes} → Shows query produced sets order rows a after → Shows query produced sets order rows b later → a ≡ b
@@ -121,4 +121,4 @@ module _ (query : Bytes) (produced sets order : ℕ) where
   one-answer s (not-named c f) = handle-answered s c f
   one-answer s (rows-short c n l) = space-answered s c n l
   one-answer s (none k d) = none-answered s k d
-  one-answer s (pair k d one two b) = pair-answered s k d
+  one-answer s (two-rows k d one two b) = two-rows-answered s k d

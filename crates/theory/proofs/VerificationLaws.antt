@@ -8,10 +8,10 @@ use mathlib.Core.List.{List, [], _∷_}
 use lib.ListN.{length, getD, length-append}
 use lib.Seq.{ext-getD}
 use Rattle.theory.specs.Tests.{pick, Says, holds, fails}
-use Rattle.theory.specs.Limits.{maxPairs, scratchLength}
+use Rattle.theory.specs.Limits.{maxJointStates, scratchLength}
 use Rattle.theory.specs.Orders.{Query, interesting, WellFormed}
 use Rattle.theory.specs.Machine.{Sizes, AllBelow, runs, SameAnswers, agree}
-use Rattle.theory.specs.Construction.{sizesOf}
+use Rattle.theory.specs.Construction.{sizesOfQuery}
 use Rattle.theory.specs.Refusals.{passed, space-refused, mismatch-refused, answer-refused, firstRefusal}
 use Rattle.theory.specs.Query.{Bytes, readQuery, queryRefusal}
 use Rattle.theory.specs.Table.{Table, numbersOf, statesIn, producedIn, testedIn, setsIn, sizesIn, wordIn, machineIn, tableRefusal}
@@ -22,7 +22,7 @@ use Rattle.theory.proofs.Reflect.{says-one, says-true, says-as, says-an
 use Rattle.theory.proofs.ChoiceNumbers.{bits-length}
 use Rattle.theory.proofs.ReadLaws.{query-formed}
 use Rattle.theory.proofs.MachineLaws.{Inside, inside-after}
-use Rattle.theory.proofs.PairLaws.{agree-says, agree-parts, pairs-few}
+use Rattle.theory.proofs.JointLaws.{agree-says, agree-parts, joint-few}
 use Rattle.theory.proofs.MachineTable.{Limited, numbers-inside, numbers-wide}
 use Rattle.theory.proofs.Faithfulness.{table-checked, passed-faithful, same-tells}
 use Rattle.theory.proofs.BuildLaws.{construct-means}
@@ -42,7 +42,7 @@ differ-at (x ∷ xs) (y ∷ ys) e n = go (decides-bool x y) (differ-at xs ys (om
     go (fails h) rest = (zero, omega arith, h)
 
 -- the table's sizes are the query's
-pub sizes-are : (q : Query) (t : Bytes) → SameSizes q t → sizesIn t ≡ sizesOf q
+pub sizes-are : (q : Query) (t : Bytes) → SameSizes q t → sizesIn t ≡ sizesOfQuery q
 sizes-are q t s i = record { produced = s .produced i; tested = s .tested i; sets = s .sets i }
 
 pub says-sizes : (q : Query) (t : Bytes) → Says (SameSizes q t) (sameSizes q t)
@@ -57,11 +57,11 @@ their-width q t sizes state =
     ∙ ap (λ (z : Sizes). z .produced + z .tested) (sizes-are q t sizes) ∙ sym (length-append (q .produced) (q .tested))
 
 -- a query's own table beside a table that passes the table check and has the query's sizes
-module _ {q : Query} {ours : Table} (formed : WellFormed q) (limits : Limited (sizesOf q)) (d : Made q ours) (t : Bytes) (passes : tableRefusal t ≡ passed) (sizes : SameSizes q t) where
-  our-states : Inside (numbersOf ours) (sizesOf q) (ours .stateCount)
+module _ {q : Query} {ours : Table} (formed : WellFormed q) (limits : Limited (sizesOfQuery q)) (d : Made q ours) (t : Bytes) (passes : tableRefusal t ≡ passed) (sizes : SameSizes q t) where
+  our-states : Inside (numbersOf ours) (sizesOfQuery q) (ours .stateCount)
   our-states = subst (λ z. Inside (numbersOf ours) z (ours .stateCount)) (made-sizes limits d) (numbers-inside ours (made-sized limits d) (made-numbered limits d))
 
-  their-states : Inside (machineIn t) (sizesOf q) (statesIn t)
+  their-states : Inside (machineIn t) (sizesOfQuery q) (statesIn t)
   their-states = subst (λ z. Inside (machineIn t) z (statesIn t)) (sizes-are q t sizes) (table-checked t passes .inside)
 
   -- and so does the query's own
@@ -71,27 +71,27 @@ module _ {q : Query} {ours : Table} (formed : WellFormed q) (limits : Limited (s
       ∙ ap (λ (z : Sizes). z .produced + z .tested) (made-sizes limits d) ∙ sym (length-append (q .produced) (q .tested))
 
   -- The table is faithful exactly when it answers as the query's own does.
-  pub same-faithful : SameAnswers (sizesOf q) (numbersOf ours) (machineIn t) → Faithful q t
+  pub same-faithful : SameAnswers (sizesOfQuery q) (numbersOf ours) (machineIn t) → Faithful q t
   same-faithful same =
       passed-faithful q t passes (sizes .produced) (sizes .tested) (sizes .sets) (same-tells q (numbersOf ours) (machineIn t) same (made-tells limits d formed))
 
-  pub faithful-same : Faithful q t → SameAnswers (sizesOf q) (numbersOf ours) (machineIn t)
+  pub faithful-same : Faithful q t → SameAnswers (sizesOfQuery q) (numbersOf ours) (machineIn t)
   faithful-same f p ss h b =
       let e = our-width p ss h b in
       ext-getD false _ _ (e ∙ sym (their-width q t sizes _))
       (λ i l. says-one (made-tells limits d formed p i ss h b (subst (λ w. i < w) e l)) (f .tells p i ss h b (subst (λ w. i < w) e l)))
 
-  -- the test of the pairs says so, ..
-  pub answers-say : Says (SameAnswers (sizesOf q) (numbersOf ours) (machineIn t)) (agree maxPairs (sizesOf q) (numbersOf ours) (machineIn t))
+  -- the test of the joint states says so, ..
+  pub answers-say : Says (SameAnswers (sizesOfQuery q) (numbersOf ours) (machineIn t)) (agree maxJointStates (sizesOfQuery q) (numbersOf ours) (machineIn t))
   answers-say =
-      agree-says (numbersOf ours) (machineIn t) (sizesOf q) decides-number decides-number maxPairs
-      (pairs-few our-states their-states (made-sized limits d .few-states) (table-checked t passes .few) decides-number decides-number)
+      agree-says (numbersOf ours) (machineIn t) (sizesOfQuery q) decides-number decides-number maxJointStates
+      (joint-few our-states their-states (made-sized limits d .few-states) (table-checked t passes .few) decides-number decides-number)
 
   -- .. and where it fails, some answer is wrong
-  pub answers-wrong : agree maxPairs (sizesOf q) (numbersOf ours) (machineIn t) ≡ false → WrongAnswer q t
+  pub answers-wrong : agree maxJointStates (sizesOfQuery q) (numbersOf ours) (machineIn t) ≡ false → WrongAnswer q t
   answers-wrong e =
-      let r = agree-parts (numbersOf ours) (machineIn t) (sizesOf q) decides-number decides-number maxPairs
-      (pairs-few our-states their-states (made-sized limits d .few-states) (table-checked t passes .few) decides-number decides-number) e in
+      let r = agree-parts (numbersOf ours) (machineIn t) (sizesOfQuery q) decides-number decides-number maxJointStates
+      (joint-few our-states their-states (made-sized limits d .few-states) (table-checked t passes .few) decides-number decides-number) e in
       let w = our-width (r .order) (r .sets) (r .produced) (r .below) in
       let i = differ-at _ _ (w ∙ sym (their-width q t sizes _)) (r .differ) in
       let l = subst (λ k. i .0 < k) w (i .1) in
@@ -111,7 +111,7 @@ wrong-unfaithful w f = w .wrong (f .tells (w .order) (w .asked) (w .sets) (w .pr
 
 module _ (query t : Bytes) (scratch : ℕ) where
   module _ (b : Buildable query scratch) where
-    limits : Limited (sizesOf (readQuery query))
+    limits : Limited (sizesOfQuery (readQuery query))
     limits = query-limited query (b .checked)
 
     own : Made (readQuery query) (b .ours)
@@ -121,7 +121,7 @@ module _ (query t : Bytes) (scratch : ℕ) where
     formed-query = query-formed query (b .checked)
 
     -- the table's checks from the last to the first, each with what comes after it
-    answer-means : tableRefusal t ≡ passed → SameSizes (readQuery query) t → (a : Bool) → agree maxPairs (sizesOf (readQuery query)) (numbersOf (b .ours)) (machineIn t) ≡ a →
+    answer-means : tableRefusal t ≡ passed → SameSizes (readQuery query) t → (a : Bool) → agree maxJointStates (sizesOfQuery (readQuery query)) (numbersOf (b .ours)) (machineIn t) ≡ a →
         Verdict query t scratch (pick a passed answer-refused)
     answer-means passes sizes true e = accepted b passes sizes (same-faithful formed-query limits own t passes sizes (says-true (answers-say formed-query limits own t passes sizes) e))
     answer-means passes sizes false e = answer-wrong b passes sizes (answers-wrong formed-query limits own t passes sizes e)

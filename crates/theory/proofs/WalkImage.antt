@@ -8,14 +8,14 @@ use mathlib.Core.List.{List, [], _∷_, _++_, map, map-append, map-map, List·Me
 use lib.ListN.{length, take, drop, getD, length-append, take-append-drop}
 use lib.Seq.{take-all, take-suc, take-append-le, getD-append-seam}
 use Rattle.theory.specs.Tests.{Says, holds, fails, Decides, upFrom}
-use Rattle.theory.specs.Closure.{add, addAll, walk, closure}
+use Rattle.theory.specs.NumberingWalk.{add, addAll, walk, numberingWalk}
 use Rattle.theory.specs.Machine.{Sizes, Machine, Reached, numberedWithin}
 use Rattle.theory.proofs.Reflect.{says-member, says-ltb}
 use Rattle.theory.proofs.ListLaws.{Within, member-getD, prefix-within, prefix-length, prefix-getD}
 use Rattle.theory.proofs.RowLaws.{all-snoc}
 use Rattle.theory.proofs.RangeLaws.{map-below}
 use Rattle.theory.proofs.PositionLaws.{add-known, add-new, add-within}
-use Rattle.theory.proofs.ClosureLaws.{addAll-append, addAll-keeps, addAll-has, walk-keeps}
+use Rattle.theory.proofs.NumberingWalkLaws.{addAll-append, addAll-keeps, addAll-has, walk-keeps}
 use Rattle.theory.proofs.WalkLaws.{walk-end, walk-more}
 use Rattle.theory.proofs.MachineLaws.{numbered-exactly}
 
@@ -173,11 +173,11 @@ module _ {A B : Type 0} {sameA : A → A → Bool} {sameB : B → B → Bool} (d
               ∙ ap images (sym (walk-end sameA outA capA (suc fuelA) l i past) ∙ s .rest)
 
     -- The second finds the images of what the first finds.
-    pub closure-image : (start : List A) → let found = closure sameA outA capA start in ((x : A) → List·Memᴰ x found → map f (outA x) ≡ outB (f x)) →
-        length found ≤ capA → length (images found) ≤ capB → closure sameB outB capB (map f start) ≡ images found
-    closure-image start moves few few′ =
+    pub numbering-image : (start : List A) → let found = numberingWalk sameA outA capA start in ((x : A) → List·Memᴰ x found → map f (outA x) ≡ outB (f x)) →
+        length found ≤ capA → length (images found) ≤ capB → numberingWalk sameB outB capB (map f start) ≡ images found
+    numbering-image start moves few few′ =
         ap (λ k. walk sameB outB capB (suc capB) k zero) (sym (images-addAll start []))
-        ∙ in-step (closure sameA outA capA start) moves few few′ (suc capA) (suc capB) (addAll sameA [] start) zero zero
+        ∙ in-step (numberingWalk sameA outA capA start) moves few few′ (suc capA) (suc capB) (addAll sameA [] start) zero zero
         (record { rest = refl; within = zero-le; fuel = omega arith; fuel′ = omega arith; count = refl; settled = λ y m. absurd (List·Memᴰ·not-nil m) })
 
 -- The numbered states of a machine that another is led to: each once, in the sequence in which the other's are numbered.
@@ -188,9 +188,9 @@ unfolding numberedWithin
 numbered-image {X} {Y} z m k f cap cap′ decM decK starts nexts few few′ =
     let out : X → List X = λ x. map (m .next x) (upFrom zero (z .sets)) in
     let out′ : Y → List Y = λ y. map (k .next y) (upFrom zero (z .sets)) in
-    ap (closure (k .same) out′ cap′)
+    ap (numberingWalk (k .same) out′ cap′)
     (map-below (k .start) (λ p. f (m .start p)) (k .start 0) (z .produced) (λ p h. sym (starts p h)) ∙ sym (map-map f (m .start) (upFrom zero (z .produced))))
-    ∙ closure-image decM decK f out out′ cap cap′ (m .start 0) (map (m .start) (upFrom zero (z .produced)))
+    ∙ numbering-image decM decK f out out′ cap cap′ (m .start 0) (map (m .start) (upFrom zero (z .produced)))
     (λ x i.
     map-map f (m .next x) (upFrom zero (z .sets))
     ∙ map-below (λ s. f (m .next x s)) (k .next (f x)) (f x) (z .sets) (λ s h. nexts x s (numbered-exactly m z decM cap few x .0 i) h))

@@ -1,4 +1,4 @@
--- The walk of a closure, one visit at a time.
+-- The numbering walk, one visit at a time.
 use Prim.Native.Nat.{ℕ, zero, suc, _-_, _<_, _≤_}
 use mathlib.Core.Path.{_≡_, refl, _∙_, ap}
 use mathlib.Core.Bool.{Bool, true, false}
@@ -7,7 +7,7 @@ use lib.Dec.{ltb}
 use lib.ListN.{length, drop, getD, drop-of-length-le}
 use lib.Seq.{drop-cons}
 use borrow.Author.Tests.{le-ltb}
-use Rattle.theory.specs.Closure.{addAll, walk}
+use Rattle.theory.specs.NumberingWalk.{addAll, walk}
 
 module _ {A : Type 0} (same : A → A → Bool) (out : A → List A) (cap : ℕ) where
   -- one visit, where r is what is not visited yet, and `full` says whether more than the cap are found

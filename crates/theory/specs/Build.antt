@@ -10,8 +10,8 @@ use lib.ListN.{length, drop, replicate}
 use Rattle.theory.specs.Tests.{pick}
 use Rattle.theory.specs.Limits.{maxStates, scratchLength}
 use Rattle.theory.specs.Orders.{Query}
-use Rattle.theory.specs.Closure.{More}
-use Rattle.theory.specs.Construction.{sizesOf, answersOf, State}
+use Rattle.theory.specs.NumberingWalk.{More}
+use Rattle.theory.specs.Construction.{sizesOfQuery, answersOf, State}
 use Rattle.theory.specs.Refusals.{passed, states-refused, space-refused}
 use Rattle.theory.specs.Query.{Bytes, readQuery, queryRefusal}
 use Rattle.theory.specs.Table.{Table, walkedTable, writeTable}
@@ -23,7 +23,7 @@ pub data Constructed : Type 0 where
 
 -- The table of a query: the smallest one with the derivation's answers.
 abbrev pub queryTable : Query → Table
-queryTable q = walkedTable (sizesOf q) (answersOf q)
+queryTable q = walkedTable (sizesOfQuery q) (answersOf q)
 
 -- The table where its states are within the limit.
 abbrev pub limited : Table → Constructed
@@ -57,14 +57,14 @@ outcome query scratch output =
     ]
 
 -- What an outcome means: each refusal under exactly the condition of the list, in its order.
-pub data Means (query : Bytes) (scratch output : ℕ) : Outcome → Type 0 where
-  query-refused : queryRefusal query ≢ passed → Means query scratch output (refused (queryRefusal query))
-  scratch-short : queryRefusal query ≡ passed → scratch < scratchLength → Means query scratch output (refused space-refused)
-  not-constructed : queryRefusal query ≡ passed → scratchLength ≤ scratch → Constructs (readQuery query) too-many → Means query scratch output (refused states-refused)
+pub data OutcomeMeans (query : Bytes) (scratch output : ℕ) : Outcome → Type 0 where
+  query-refused : queryRefusal query ≢ passed → OutcomeMeans query scratch output (refused (queryRefusal query))
+  scratch-short : queryRefusal query ≡ passed → scratch < scratchLength → OutcomeMeans query scratch output (refused space-refused)
+  not-constructed : queryRefusal query ≡ passed → scratchLength ≤ scratch → Constructs (readQuery query) too-many → OutcomeMeans query scratch output (refused states-refused)
   output-short : {t : Table} → queryRefusal query ≡ passed → scratchLength ≤ scratch → Constructs (readQuery query) (table t) →
-      output < length (writeTable t) → Means query scratch output (refused space-refused)
+      output < length (writeTable t) → OutcomeMeans query scratch output (refused space-refused)
   table-built : {t : Table} → queryRefusal query ≡ passed → scratchLength ≤ scratch → Constructs (readQuery query) (table t) →
-      length (writeTable t) ≤ output → Means query scratch output (built (writeTable t))
+      length (writeTable t) ≤ output → OutcomeMeans query scratch output (built (writeTable t))
 
 -- The output keeps its bytes on every refusal; otherwise its first bytes are the table and the rest keep theirs.
 abbrev pub written : Outcome → Bytes → Bytes

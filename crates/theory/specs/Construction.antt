@@ -12,8 +12,8 @@ use Rattle.theory.specs.AnswerTree.{AnswerTree, answering}
 use Rattle.theory.specs.Settled.{isHeld}
 
 -- The sizes of a query.
-abbrev pub sizesOf : Query → Sizes
-sizesOf q = record { produced = length (q .produced); tested = length (q .tested); sets = q .sets }
+abbrev pub sizesOfQuery : Query → Sizes
+sizesOfQuery q = record { produced = length (q .produced); tested = length (q .tested); sets = q .sets }
 
 -- Which interesting orders are held from a produced order under a choice.
 abbrev pub heldUnder : Query → Order → Choice → List Bool
@@ -25,7 +25,7 @@ answersOf q = answering (q .sets) (λ p c. heldUnder q (getD (q .produced) p [])
 
 -- A *state* is reached from a start by some sets. It is a row of the smallest table: states that no run of sets tells apart are one.
 abbrev pub State : Query → AnswerTree → Type 0
-State q = Reached (answersOf q) (sizesOf q)
+State q = Reached (answersOf q) (sizesOfQuery q)
 
 -- In the derivation's words: a produced order, by number, and the sets in force. Two such pairs share a row where, with whatever further sets, the same interesting orders
 -- are derived.

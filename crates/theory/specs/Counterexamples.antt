@@ -53,6 +53,6 @@ pub data Shows (query : Bytes) (produced sets order : ℕ) (rows : Bytes) : Answ
   rows-short : queryRefusal query ≡ passed → Named (readQuery query) produced sets order → length rows < 2 * readQuery query .columns →
       Shows query produced sets order rows (refuse space-refused) rows
   none : Askable query produced sets order rows → Derivable (readQuery query) produced sets order → Shows query produced sets order rows (grant 0) rows
-  pair : Askable query produced sets order rows → ¬ Derivable (readQuery query) produced sets order →
+  two-rows : Askable query produced sets order rows → ¬ Derivable (readQuery query) produced sets order →
       (one two : Bytes) → Breaking (readQuery query) produced sets order one two →
       Shows query produced sets order rows (grant 1) (one ++ (two ++ drop (2 * readQuery query .columns) rows))

@@ -4,7 +4,7 @@ pub mod Limits
 pub mod Orders
 pub mod Choices
 pub mod Rows
-pub mod Closure
+pub mod NumberingWalk
 pub mod Machine
 pub mod AnswerTree
 pub mod Settled

@@ -1,5 +1,5 @@
 -- Document 01's limits and the widths of its two layouts, each named once.
-use Prim.Native.Nat.{ℕ}
+use Prim.Native.Nat.{ℕ, _*_}
 
 -- The sizes of a query and of a table: N is 1 to 12, P 1 to 8, T, S 0 to 8, D 0 to 16, Q 1 to 128.
 abbrev pub maxColumns : ℕ
@@ -20,9 +20,9 @@ maxDependencies = 16
 abbrev pub maxStates : ℕ
 maxStates = 128
 
--- Two tables have no more pairs of states than these.
-abbrev pub maxPairs : ℕ
-maxPairs = 16384
+-- Two tables have no more joint states, a state of the one with a state of the other.
+abbrev pub maxJointStates : ℕ
+maxJointStates = maxStates * maxStates
 
 -- An order has at most four columns.
 abbrev pub maxLength : ℕ

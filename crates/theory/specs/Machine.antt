@@ -1,11 +1,11 @@
--- Starts, successors and held orders of any kind of state, and how states are numbered. The construction of document 01 is one such machine, and a table's
--- bytes say another.
+-- Starts, successors and held orders of any kind of state, and how states are numbered. A query's trees of answers are the states of one such machine, and the numbers
+-- in a table's bytes are those of another.
 use Prim.Native.Nat.{ℕ, zero, _<_}
 use mathlib.Core.Path.{_≡_}
 use mathlib.Core.Bool.{Bool, _&&_, Bool·beq}
 use mathlib.Core.List.{List, [], _∷_, _++_, map, List·Memᴰ}
 use Rattle.theory.specs.Tests.{upFrom, every, sameList}
-use Rattle.theory.specs.Closure.{closure}
+use Rattle.theory.specs.NumberingWalk.{numberingWalk}
 
 -- How many produced orders, tested orders and sets there are.
 pub record Sizes : Type 0 where
@@ -41,7 +41,7 @@ module _ {X : Type 0} (m : Machine X) where
   -- The states by number: first the starts, in the order of the produced orders. Then each state, in number order, takes each set, in number order,
   -- and each new state gets the next free number. Where the list is longer than `cap`, there are more states than that.
   unfoldable pub numberedWithin : ℕ → Sizes → List X
-  numberedWithin cap z = closure (m .same) (λ x. map (m .next x) (upFrom zero (z .sets))) cap (map (m .start) (upFrom zero (z .produced)))
+  numberedWithin cap z = numberingWalk (m .same) (λ x. map (m .next x) (upFrom zero (z .sets))) cap (map (m .start) (upFrom zero (z .produced)))
 
 module _ {X : Type 0} (z : Sizes) (m : Machine X) where
   -- Two states are alike: no order lookup after any run of sets tells them apart.
@@ -58,7 +58,7 @@ module _ {X Y : Type 0} where
   SameAnswers z m k =
       (p : ℕ) (ss : List ℕ) → p < z .produced → AllBelow (z .sets) ss → m .held (runs m (m .start p) ss) ≡ k .held (runs k (k .start p) ss)
 
-  -- Two machines side by side: their states are pairs, one state of each, and they hold what the one holds and then what the other holds.
+  -- Two machines side by side: a *joint state* is a state of the one with a state of the other, and it holds what the one holds and then what the other holds.
   abbrev pub both : Machine X → Machine Y → Machine (X × Y)
   both m k =
       record {
@@ -68,6 +68,6 @@ module _ {X Y : Type 0} where
         same = λ x y. m .same (x .0) (y .0) && k .same (x .1) (y .1);
       }
 
-  -- The two states of every pair that is reached hold the same orders: a test that computes, where there are at most `cap` such pairs.
+  -- The two states of every joint state that is reached hold the same orders: a test that computes, where there are at most `cap` of them.
   unfoldable pub agree : ℕ → Sizes → Machine X → Machine Y → Bool
   agree cap z m k = every (λ x. sameList Bool·beq (m .held (x .0)) (k .held (x .1))) (numberedWithin (both m k) cap z)

@@ -3,18 +3,12 @@ use Prim.Native.Nat.{ℕ, _<_}
 use mathlib.Core.Path.{_≡_}
 use mathlib.Core.Logic.{_⊎_}
 use mathlib.Core.List.{List, [], _∷_, List·Memᴰ}
-use lib.IntN.{ℤ, pos, negsuc}
+use lib.IntN.{ℤ, pos}
+use lib.Signed.{_<ℤ_}
 use lib.ListN.{length, getD}
 use Rattle.theory.specs.Orders.{Order, column, Rule, fix, equal}
 
--- The order of the whole numbers, negative ones included: `pos n` is n and `negsuc n` is -(n + 1).
-abbrev pub Less : ℤ → ℤ → Type 0
-Less (pos a) (pos b) = a < b
-Less (pos a) (negsuc b) = ⊥
-Less (negsuc a) (pos b) = Unit {0}
-Less (negsuc a) (negsuc b) = b < a
-
--- A row is a list of whole numbers, one for each column.
+-- A row is a list of whole numbers, one for each column. They may be negative: `pos n` is n, and the kit's `negsuc n` is -(n + 1).
 abbrev pub Row : Type 0
 Row = List ℤ
 
@@ -25,7 +19,7 @@ cell row c = getD row c (pos 0)
 -- The first row compares below the second, the columns of the order taken in turn and ascending.
 abbrev pub Below : Row → Row → Order → Type 0
 Below x y [] = ⊥
-Below x y (e ∷ o) = Less (cell x (column e)) (cell y (column e)) ⊎ ((cell x (column e) ≡ cell y (column e)) × Below x y o)
+Below x y (e ∷ o) = (cell x (column e) <ℤ cell y (column e)) ⊎ ((cell x (column e) ≡ cell y (column e)) × Below x y o)
 
 -- Rows *stand in* an order when no row compares below an earlier one.
 abbrev pub Stands : List Row → Order → Type 0

@@ -1,11 +1,14 @@
--- The map of the scratch: where each part begins, and what constructing leaves there for writing.
+-- The map of the scratch: where each part begins, the table of whatever words lie there, and what constructing leaves there for writing.
 use Prim.Native.Nat.{ℕ, suc, _+_, _*_, _^_, _≤_}
 use mathlib.Core.Path.{_≡_}
 use mathlib.Core.List.{map, flatten}
 use lib.ListN.{length, take, drop}
+use Rattle.theory.specs.Tests.{bitsOf}
 use Rattle.theory.specs.Limits.{heldWidth}
+use Rattle.theory.specs.Machine.{Sizes, Machine}
+use Rattle.theory.specs.AnswerTree.{AnswerTree, answering}
 use Rattle.theory.specs.Query.{Bytes, byteAt}
-use Rattle.theory.specs.Table.{Table, heldBytes}
+use Rattle.theory.specs.Table.{Table, walkedTable, number, heldBytes}
 
 -- The first two bytes are free. Then comes the held word of each pair of a produced order and a choice, low byte first: produced order by produced order, the choices
 -- counted upwards, 2,048 words at most.
@@ -42,9 +45,17 @@ openIn sets work p x = byteAt work (openAt sets p x)
 abbrev pub workLength : ℕ
 workLength = 7434
 
--- Behind a build, in the first bytes: the pairs of states that are reached together, a bit for each of 128 times 128.
-abbrev pub pairsLength : ℕ
-pairsLength = 2048
+-- The machine that the words in the scratch say, whatever they are: its states are what is held under each choice of further sets. Of each word so many bits count.
+abbrev pub rowsMachine : (bits sets : ℕ) → Bytes → Machine AnswerTree
+rowsMachine bits sets work = answering sets (λ p c. bitsOf bits (wordAt sets work p (number c)))
+
+-- Its table, where there are so many produced orders, tested orders and sets: of each word the lowest P + T bits count.
+abbrev pub rowsTable : Sizes → Bytes → Table
+rowsTable z work = walkedTable z (rowsMachine (z .produced + z .tested) (z .sets) work)
+
+-- After a build, in the first bytes: the joint states of two tables that are reached, a bit for each of 128 times 128.
+abbrev pub jointStatesLength : ℕ
+jointStatesLength = 2048
 
 -- The scratch has a table's starts, its rows of successors and its held words, low byte first, each in its part.
 pub record Stored (t : Table) (work : Bytes) : Type 0 where

@@ -1,5 +1,5 @@
 -- Tests that compute, and small functions on lists that the definitions share. No term of document 01 is defined here.
-use Prim.Native.Nat.{ℕ, zero, suc, _/_, _%_, _^_, max}
+use Prim.Native.Nat.{ℕ, zero, suc, _/_, _%_, _^_}
 use mathlib.Core.Path.{_≡_}
 use mathlib.Core.Bool.{Bool, true, false, _&&_}
 use mathlib.Core.List.{List, [], _∷_, List·Memᴰ}
@@ -61,11 +61,6 @@ module _ {A : Type 0} where
 abbrev pub upFrom : ℕ → ℕ → List ℕ
 upFrom k zero = []
 upFrom k (suc n) = k ∷ upFrom (suc k) n
-
--- the largest of the numbers, 0 where there is none
-abbrev pub largest : List ℕ → ℕ
-largest [] = zero
-largest (n ∷ ns) = max n (largest ns)
 
 -- the lowest n bits of a number, the lowest first
 abbrev pub bitsOf : ℕ → ℕ → List Bool

@@ -8,10 +8,10 @@ use mathlib.Core.List.{List, []}
 use lib.Dec.{eqb, ltb}
 use lib.ListN.{length, getD}
 use Rattle.theory.specs.Tests.{pick, Says}
-use Rattle.theory.specs.Limits.{maxPairs, scratchLength}
+use Rattle.theory.specs.Limits.{maxJointStates, scratchLength}
 use Rattle.theory.specs.Orders.{Query, interesting, After}
 use Rattle.theory.specs.Machine.{AllBelow, runs, agree}
-use Rattle.theory.specs.Construction.{sizesOf}
+use Rattle.theory.specs.Construction.{sizesOfQuery}
 use Rattle.theory.specs.Refusals.{passed, states-refused, space-refused, mismatch-refused, answer-refused, firstRefusal}
 use Rattle.theory.specs.Query.{Bytes, readQuery, queryRefusal}
 use Rattle.theory.specs.Table.{Table, numbersOf, producedIn, testedIn, setsIn, machineIn, tableRefusal}
@@ -30,9 +30,9 @@ sameSizes q t = eqb (producedIn t) (length (q .produced)) && (eqb (testedIn t) (
 unfoldable pub mismatchRefusal : Query → Bytes → ℕ
 mismatchRefusal q t = pick (sameSizes q t) passed mismatch-refused
 
--- Refusal 13, where `ours` is the query's own table: in some pair of states that are reached together, the two do not hold the same orders.
+-- Refusal 13, where `ours` is the query's own table: in some joint state that is reached, the two states do not hold the same orders.
 unfoldable pub answerRefusal : Query → Table → Bytes → ℕ
-answerRefusal q ours t = pick (agree maxPairs (sizesOf q) (numbersOf ours) (machineIn t)) passed answer-refused
+answerRefusal q ours t = pick (agree maxJointStates (sizesOfQuery q) (numbersOf ours) (machineIn t)) passed answer-refused
 
 -- The table's checks, once the query's own table is constructed: its form (1, 2, 1, 11), then 12, then 13.
 unfoldable pub suppliedRefusal : Query → Table → Bytes → ℕ

@@ -11,7 +11,7 @@ use Rattle.theory.specs.Tests.{Says, every}
 use Rattle.theory.specs.Orders.{Query, interesting, rulesOf, After}
 use Rattle.theory.specs.Machine.{numberedWithin, agree}
 use Rattle.theory.specs.Settled.{settledColumns, isHeld}
-use Rattle.theory.specs.Construction.{sizesOf, answersOf}
+use Rattle.theory.specs.Construction.{sizesOfQuery, answersOf}
 use Rattle.theory.specs.Refusals.{passed}
 use Rattle.theory.specs.Query.{Bytes, readQuery, sizesRefusal, bodyRefusal, orderRefusal, dependencyRefusal, itemRefusal, twinRefusal, queryRefusal}
 use Rattle.theory.specs.Table.{tableOf, walkedTable, writeTable, statesIn, formRefusal, startsRefusal, successorsRefusal, heldRefusal, tableRefusal}
@@ -63,13 +63,13 @@ meets query (builds m b) e = has-sizes query m b (outcomeOf query) refl e
 meets query (refusal n) e = same-outcome (outcomeOf query) (refused n) e
 meets query (state-count n) e =
     let q = readQuery query in
-    let h = says-true (says-and (says-eqb (queryRefusal query) passed) (says-eqb (length (numberedWithin (answersOf q) n (sizesOf q))) n)) e in (
+    let h = says-true (says-and (says-eqb (queryRefusal query) passed) (says-eqb (length (numberedWithin (answersOf q) n (sizesOfQuery q))) n)) e in (
       h .0,
       record {
-        things = numberedWithin (answersOf q) n (sizesOf q);
-        different = numbered-distinct (answersOf q) (sizesOf q) decides-tree n;
+        things = numberedWithin (answersOf q) n (sizesOfQuery q);
+        different = numbered-distinct (answersOf q) (sizesOfQuery q) decides-tree n;
         count = h .1;
-        each = numbered-exactly (answersOf q) (sizesOf q) decides-tree n (omega (arith, h .1));
+        each = numbered-exactly (answersOf q) (sizesOfQuery q) decides-tree n (omega (arith, h .1));
       },
     )
 meets query (after p ss i held) e =

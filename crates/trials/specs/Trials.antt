@@ -9,10 +9,10 @@ use lib.ListN.{length, getD}
 use Rattle.theory.specs.Limits.{scratchLength, longestTable}
 use Rattle.theory.specs.Tests.{Says, every, sameList}
 use Rattle.theory.specs.Orders.{Query, interesting, rulesOf, After}
-use Rattle.theory.specs.Closure.{Exactly}
+use Rattle.theory.specs.NumberingWalk.{Exactly}
 use Rattle.theory.specs.Machine.{AllBelow, runs, numberedWithin}
 use Rattle.theory.specs.Settled.{isHeld}
-use Rattle.theory.specs.Construction.{sizesOf, answersOf, State}
+use Rattle.theory.specs.Construction.{sizesOfQuery, answersOf, State}
 use Rattle.theory.specs.Refusals.{passed}
 use Rattle.theory.specs.Query.{Bytes, readQuery, queryRefusal}
 use Rattle.theory.specs.Table.{statesIn, machineIn}
@@ -88,7 +88,7 @@ unfoldable pub comesOut : Bytes → Query → Expectation → Bool
 comesOut query q (table b) = sameOutcome (outcomeOf query) (built b)
 comesOut query q (builds m b) = hasSizes (outcomeOf query) m b
 comesOut query q (refusal n) = sameOutcome (outcomeOf query) (refused n)
-comesOut query q (state-count n) = eqb (queryRefusal query) passed && eqb (length (numberedWithin (answersOf q) n (sizesOf q))) n
+comesOut query q (state-count n) = eqb (queryRefusal query) passed && eqb (length (numberedWithin (answersOf q) n (sizesOfQuery q))) n
 comesOut query q (after p ss i held) =
     eqb (queryRefusal query) passed && (isRun q p ss && (ltb i (length (interesting q)) && Bool·beq (isHeld (rulesOf q ss) (getD (q .produced) p []) (getD (interesting q) i [])) held))
 comesOut query q (verified t n) = eqb (verifyRefusal query t scratchLength) n

@@ -13,8 +13,8 @@ use Rattle.theory.specs.Tests.{pick, Says, holds, fails}
 use Rattle.theory.specs.Limits.{scratchLength, longestTable}
 use Rattle.theory.specs.Machine.{SameAnswers}
 use Rattle.theory.specs.Orders.{WellFormed}
-use Rattle.theory.specs.Construction.{sizesOf}
-use Rattle.theory.specs.Scratch.{pairsLength}
+use Rattle.theory.specs.Construction.{sizesOfQuery}
+use Rattle.theory.specs.Scratch.{jointStatesLength}
 use Rattle.theory.specs.Refusals.{passed, states-refused, space-refused, mismatch-refused, answer-refused}
 use Rattle.theory.specs.Query.{Bytes, readQuery, queryRefusal}
 use Rattle.theory.specs.Table.{numbersOf, writeTable, machineIn, sizesIn, tableRefusal}
@@ -23,7 +23,7 @@ use Rattle.theory.specs.Verification.{SameSizes, sameSizes, mismatchRefusal, an
 use Rattle.theory.proofs.Reflect.{says-one, says-as, says-true, true-says, false-says, says-eqb, says-ltb}
 use Rattle.theory.proofs.RefusalLaws.{refused-else}
 use Rattle.theory.proofs.ReadLaws.{query-formed}
-use Rattle.theory.proofs.PairLaws.{same-sym, same-trans}
+use Rattle.theory.proofs.JointLaws.{same-sym, same-trans}
 use Rattle.theory.proofs.MachineTable.{Limited, bytes-answer}
 use Rattle.theory.proofs.BuildLaws.{construct-means}
 use Rattle.theory.proofs.ConstructionLaws.{Made, made, made-sized, made-numbered, made-passes, made-faithful, made-sizes}
@@ -32,9 +32,9 @@ use Rattle.theory.proofs.VerificationLaws.{sizes-are, says-sizes, answers-say}
 use Rattle.theory.proofs.SuppliedTables.{faithful-sizes}
 use Rattle.byte_rows.proofs.ClearLaws.{zeroed-part, zeroed-again}
 use Rattle.builder.specs.declared.Built as answer
-use Rattle.builder.specs.Built.{answerOf}
+use Rattle.builder.specs.Built.{builtAnswer}
 use Rattle.builder.proofs.AnswerLaws.{table-room}
-use Rattle.pairs.specs.Pairs.{Comparable}
+use Rattle.joint_states.specs.JointStates.{Comparable}
 use Rattle.verify.specs.Own.{Own}
 
 -- A build with room for every table, and what the trial's outcome is by it.
@@ -86,12 +86,12 @@ scratch-cleared query scratch c h = rw (eq-eqb (queryRefusal query) passed c, le
 abbrev lent : Bytes
 lent = replicate longestTable 0
 
-module _ (query scratch : Bytes) {r : answer.Built} (a : r ≡ answerOf (outcome query (length scratch) (length lent))) where
+module _ (query scratch : Bytes) {r : answer.Built} (a : r ≡ builtAnswer (outcome query (length scratch) (length lent))) where
   -- the build's refusal is the trial's, ..
   pub build-refused : (t : Bytes) → r .refusal ≢ passed → r .refusal ≡ verifyRefusal query t (length scratch)
   build-refused t n = go (after-build query (length scratch)) a
     where
-      go : {o : Outcome} → AfterBuild query (length scratch) o → r ≡ answerOf o → r .refusal ≡ verifyRefusal query t (length scratch)
+      go : {o : Outcome} → AfterBuild query (length scratch) o → r ≡ builtAnswer o → r .refusal ≡ verifyRefusal query t (length scratch)
       go (no-table _ f) e = ap (λ (x : answer.Built). x .refusal) e ∙ f t
       go (own-table _ _ _) e = absurd (n (ap (λ (x : answer.Built). x .refusal) e))
 
@@ -101,17 +101,17 @@ module _ (query scratch : Bytes) {r : answer.Built} (a : r ≡ answerOf (outcome
   unfolding outputAfter
   build-granted {output} w z = go (after-build query (length scratch)) a w
     where
-      go : {o : Outcome} → AfterBuild query (length scratch) o → r ≡ answerOf o → output ≡ written o lent → (r .length ≤ length output) × Granted query scratch (take (r .length) output)
+      go : {o : Outcome} → AfterBuild query (length scratch) o → r ≡ builtAnswer o → output ≡ written o lent → (r .length ≤ length output) × Granted query scratch (take (r .length) output)
       go (no-table n _) e w = absurd (n (sym (ap (λ (x : answer.Built). x .refusal) e) ∙ z))
       go (own-table {ours} s o p) e w =
           let long = ap (λ (x : answer.Built). x .length) e in
           let same : take (r .length) output ≡ ours = ap₂ take long w ∙ take-at ours (drop (length ours) lent) (length ours) refl in
           (rw (w, length-append) (omega arith), rw same (record { room = s; own = o; goes-on = p; cleared = scratch-cleared query scratch (o .checked) s }))
 
--- clearing the pairs leaves the scratch as the build left it
-pub pairs-cleared : (scratch d : Bytes) → scratchLength ≤ length scratch → d ≡ zeroed scratchLength scratch → length d ≡ length scratch →
-    zeroed (length (take pairsLength d)) (take pairsLength d) ++ drop pairsLength d ≡ zeroed scratchLength scratch
-pairs-cleared scratch d h e l = zeroed-part pairsLength d (omega arith) ∙ ap (zeroed pairsLength) e ∙ zeroed-again pairsLength scratchLength scratch (omega arith)
+-- clearing the joint states leaves the scratch as the build left it
+pub joint-cleared : (scratch d : Bytes) → scratchLength ≤ length scratch → d ≡ zeroed scratchLength scratch → length d ≡ length scratch →
+    zeroed (length (take jointStatesLength d)) (take jointStatesLength d) ++ drop jointStatesLength d ≡ zeroed scratchLength scratch
+joint-cleared scratch d h e l = zeroed-part jointStatesLength d (omega arith) ∙ ap (zeroed jointStatesLength) e ∙ zeroed-again jointStatesLength scratchLength scratch (omega arith)
 
 -- the two outcomes of check 12
 pub sizes-differ : (query t : Bytes) → ¬ SameSizes (readQuery query) t → mismatch-refused ≡ mismatchRefusal (readQuery query) t
@@ -130,7 +130,7 @@ module _ {query ours : Bytes} (o : Own query ours) (t : Bytes) where
   facts : Made (readQuery query) (o .contents)
   facts = made (readQuery query) (subst (Constructs (readQuery query)) (o .constructed) (construct-means (readQuery query)))
 
-  limits : Limited (sizesOf (readQuery query))
+  limits : Limited (sizesOfQuery (readQuery query))
   limits = query-limited query (o .checked)
 
   formed : WellFormed (readQuery query)
@@ -167,16 +167,16 @@ module _ {query ours : Bytes} (o : Own query ours) (t : Bytes) where
           }
 
       -- our bytes answer as our numbers do
-      own-same : SameAnswers (sizesOf (readQuery query)) (machineIn ours) (numbersOf (o .contents))
+      own-same : SameAnswers (sizesOfQuery (readQuery query)) (machineIn ours) (numbersOf (o .contents))
       own-same =
-          subst (λ b. SameAnswers (sizesOf (readQuery query)) (machineIn b) (numbersOf (o .contents))) (sym (o .bytes))
+          subst (λ b. SameAnswers (sizesOfQuery (readQuery query)) (machineIn b) (numbersOf (o .contents))) (sym (o .bytes))
           (subst (λ z. SameAnswers z (machineIn (writeTable (o .contents))) (numbersOf (o .contents))) (made-sizes limits facts)
           (bytes-answer (o .contents) (made-sized limits facts) (made-numbered limits facts)))
 
       pub answers-decide : {r : Bool} → Says (SameAnswers (sizesIn ours) (machineIn ours) (machineIn t)) r → OutcomeIs (pick r passed answer-refused)
       unfolding suppliedRefusal answerRefusal
       answers-decide {r} s =
-          let z = sizesOf (readQuery query) in
+          let z = sizesOfQuery (readQuery query) in
           let m = machineIn ours in
           let n = numbersOf (o .contents) in
           let k = machineIn t in

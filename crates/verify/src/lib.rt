@@ -1,10 +1,10 @@
 // A supplier's table on trial: the query's own checks and table, then the supplier's table beside it.
 use numbers::limits::LONGEST_TABLE;
 use numbers::refusals;
-use numbers::scratch::PAIRS_LENGTH;
+use numbers::scratch::JOINT_STATES_LENGTH;
 ghost use mathlib.Core.Path.{_≡_};
 ghost use lib.ListN.{length};
-ghost use Rattle.theory.specs.Scratch.{pairsLength};
+ghost use Rattle.theory.specs.Scratch.{jointStatesLength};
 ghost use Rattle.theory.specs.Query.{readQuery};
 ghost use Rattle.theory.specs.Build.{construct, scratchAfter, zeroed};
 ghost use Rattle.theory.specs.Verification.{mismatchRefusal, verifiedWith, verifyRefusal};
@@ -27,9 +27,9 @@ fn mismatch(query: &[u8], table: &[u8]) -> u8
 }
 
 // The checks of a supplier's table beside the query's own: its form, then 12, then 13.
-fn supplied(query: &[u8], ours: &[u8], table: &[u8], pairs: &mut [u8]) -> u8
-    requires { ⌜ Own (now query) (now ours) × (length (now pairs) ≡ pairsLength) ⌝ }
-    ensures { λ r. ⌜ (r ≡ verifiedWith (readQuery (now (query .entry))) (construct (readQuery (now (query .entry)))) (now (table .entry))) × (length (now (pairs .exit)) ≡ length (now (pairs .entry))) ⌝ }
+fn supplied(query: &[u8], ours: &[u8], table: &[u8], reached: &mut [u8]) -> u8
+    requires { ⌜ Own (now query) (now ours) × (length (now reached) ≡ jointStatesLength) ⌝ }
+    ensures { λ r. ⌜ (r ≡ verifiedWith (readQuery (now (query .entry))) (construct (readQuery (now (query .entry)))) (now (table .entry))) × (length (now (reached .exit)) ≡ length (now (reached .entry))) ⌝ }
 {
     let form = table::check(table);
     if form != refusals::PASSED {
@@ -39,20 +39,20 @@ fn supplied(query: &[u8], ours: &[u8], table: &[u8], pairs: &mut [u8]) -> u8
     if sizes != refusals::PASSED {
         return sizes;
     }
-    if comparison::same_answers(ours, table, pairs) {
+    if comparison::same_answers(ours, table, reached) {
         refusals::PASSED
     } else {
         refusals::ANSWER
     }
 }
 
-// The same, and the memory of the pairs cleared behind it.
-fn supplied_cleared(query: &[u8], ours: &[u8], table: &[u8], pairs: &mut [u8]) -> u8
-    requires { ⌜ Own (now query) (now ours) × (length (now pairs) ≡ pairsLength) ⌝ }
-    ensures { λ r. ⌜ (r ≡ verifiedWith (readQuery (now (query .entry))) (construct (readQuery (now (query .entry)))) (now (table .entry))) × (now (pairs .exit) ≡ zeroed (length (now (pairs .entry))) (now (pairs .entry))) ⌝ }
+// The same, and the memory of the joint states cleared behind it.
+fn supplied_cleared(query: &[u8], ours: &[u8], table: &[u8], reached: &mut [u8]) -> u8
+    requires { ⌜ Own (now query) (now ours) × (length (now reached) ≡ jointStatesLength) ⌝ }
+    ensures { λ r. ⌜ (r ≡ verifiedWith (readQuery (now (query .entry))) (construct (readQuery (now (query .entry)))) (now (table .entry))) × (now (reached .exit) ≡ zeroed (length (now (reached .entry))) (now (reached .entry))) ⌝ }
 {
-    let refusal = supplied(query, ours, table, pairs);
-    byte_rows::clear(pairs);
+    let refusal = supplied(query, ours, table, reached);
+    byte_rows::clear(reached);
     refusal
 }
 
@@ -69,5 +69,10 @@ pub fn verify(query: &[u8], table: &[u8], scratch: &mut [u8]) -> u8
         return refusal;
     }
     let length = built.length;
-    supplied_cleared(query, &ours[..length], table, &mut scratch[..PAIRS_LENGTH])
+    supplied_cleared(
+        query,
+        &ours[..length],
+        table,
+        &mut scratch[..JOINT_STATES_LENGTH],
+    )
 }

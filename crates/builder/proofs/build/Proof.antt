@@ -10,7 +10,7 @@ use borrow.Author.Needs.{needs}
 use Rattle.theory.specs.Limits.{scratchLength}
 use Rattle.theory.specs.Refusals.{passed}
 use Rattle.theory.specs.Build.{refused}
-use Rattle.builder.specs.Built.{answerOf}
+use Rattle.builder.specs.Built.{builtAnswer}
 use Rattle.byte_rows.proofs.ClearLaws.{zeroed-part}
 use Rattle.builder.proofs.WholeLaws.{whole-refused, whole-short, whole-built}
 use Rattle.builder.proofs.build.Statement.{statement}
@@ -26,7 +26,7 @@ returns : tie.Need-returns
 returns c = let a = c .before .before .before .before .before .before .args in
     let e = c .before .before .check .ensures in
     whole-refused (now (a .query)) (now (a .scratch)) (now (a .output)) (subst (λ k. k ≢ passed) e (c .before .if1 .taken))
-    (subst (λ k. c .refused .result ≡ answerOf (refused k)) e (c .refused .ensures))
+    (subst (λ k. c .refused .result ≡ builtAnswer (refused k)) e (c .refused .ensures))
 
 refused-requires-2 : tie.Need-refused-requires-2
 refused-requires-2 c κs = search needs

@@ -1,15 +1,15 @@
--- `comparison::alike` meets its contract: a pair that is in the set is looked at, another is passed over.
-use Rattle.pairs.proofs.TogetherLaws.{pair-below}
+-- `comparison::alike` meets its contract: a joint state that is in the set is looked at, another is passed over.
+use Rattle.joint_states.proofs.TogetherLaws.{joint-below}
 use Rattle.comparison.proofs.HeldLaws.{alike-one, alike-over}
 use borrow.Author.Needs.{needs}
 use Rattle.comparison.proofs.alike.Statement.{statement}
 use Rattle.comparison.proofs.alike.Tie as tie
 
-marked-requires : tie.Need-marked-requires
-marked-requires c κs = search needs
+has-requires : tie.Need-has-requires
+has-requires c κs = search needs
 
 same-held-requires : tie.Need-same-held-requires
-same-held-requires c κs = let s = c .before .before .before .before .before in let w = s .pre .0 in let l = pair-below (w .comparable) _ (w .sound (s .args .i) (cc)) in (w .comparable, l .0, l .1)
+same-held-requires c κs = let s = c .before .before .before .before .before in let w = s .pre .0 in let l = joint-below (w .comparable) _ (w .sound (s .args .i) (cc)) in (w .comparable, l .0, l .1)
 
 returns : tie.Need-returns
 returns c = alike-one (cc) (c .same-held .ensures)
@@ -18,4 +18,4 @@ returns-2 : tie.Need-returns-2
 returns-2 c = alike-over (cc)
 
 pub alike-spec : {M : Type 1} → statement M
-alike-spec = tie.close (tie.spec marked-requires same-held-requires returns returns-2)
+alike-spec = tie.close (tie.spec has-requires same-held-requires returns returns-2)

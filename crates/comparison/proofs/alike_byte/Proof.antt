@@ -1,9 +1,9 @@
--- `comparison::alike_byte` meets its contract. The loop's invariant: the states of the first j pairs of the byte hold the same.
+-- `comparison::alike_byte` meets its contract. The loop's invariant: the states of the first j joint states of the byte hold the same.
 use native.Mathlib.Omega.{arith}
 use mathlib.Core.Path.{_≡_}
 use denote.Ref.{now}
 use Rattle.theory.specs.Tests.{holds}
-use Rattle.pairs.proofs.SetLaws.{byte-none}
+use Rattle.joint_states.proofs.SetLaws.{byte-none}
 use Rattle.comparison.proofs.HeldLaws.{alike-skip, alike-none, alike-more, unlike}
 use Prim.Native.Nat.{_+_, _*_, _-_, _≤_}
 use Rattle.comparison.specs.Alike.{AlikeFrom}
@@ -12,16 +12,16 @@ use Rattle.comparison.proofs.alike_byte.Statement.{statement}
 use Rattle.comparison.proofs.alike_byte.Tie as tie
 
 abbrev Inv-loop : tie.InvT-loop
-Inv-loop ours theirs pairs k j₀ j = (j ≤ 8) × AlikeFrom ours theirs pairs (8 * k) (8 * k + j)
+Inv-loop ours theirs reached k j₀ j = (j ≤ 8) × AlikeFrom ours theirs reached (8 * k) (8 * k + j)
 
 abbrev μ-loop : tie.MeasureT-loop
-μ-loop ours theirs pairs k j₀ j = 8 - j
+μ-loop ours theirs reached k j₀ j = 8 - j
 
 shared-slice-read-if1 : tie.Need-shared-slice-read-if1 Inv-loop μ-loop
 shared-slice-read-if1 c = search needs
 
 returns : tie.Need-returns Inv-loop μ-loop
-returns c = let s = c .before .before .before .before .before in holds (alike-skip (byte-none (now (s .args .pairs)) (s .args .k) (c .if1 .taken)))
+returns c = let s = c .before .before .before .before .before in holds (alike-skip (byte-none (now (s .args .reached)) (s .args .k) (c .if1 .taken)))
 
 loop-holds : tie.Need-loop-holds Inv-loop μ-loop
 loop-holds c = (omega arith, alike-none (omega arith))

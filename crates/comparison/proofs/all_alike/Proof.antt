@@ -1,4 +1,4 @@
--- `comparison::all_alike` meets its contract. The loop's invariant: the states of the pairs of the first k bytes hold the same.
+-- `comparison::all_alike` meets its contract. The loop's invariant: the states of the joint states of the first k bytes hold the same.
 use Prim.Native.Nat.{_*_, _-_, _≤_}
 use native.Mathlib.Omega.{arith}
 use mathlib.Core.Path.{_≡_}
@@ -7,17 +7,17 @@ use Rattle.theory.specs.Tests.{holds}
 use Rattle.theory.specs.Limits.{maxStates}
 use Rattle.theory.specs.Table.{statesIn}
 use Rattle.comparison.specs.Alike.{AlikeFrom}
-use Rattle.pairs.proofs.TogetherLaws.{our-form}
+use Rattle.joint_states.proofs.TogetherLaws.{our-form}
 use Rattle.comparison.proofs.HeldLaws.{alike-none, alike-more, unlike}
 use borrow.Author.Needs.{needs}
 use Rattle.comparison.proofs.all_alike.Statement.{statement}
 use Rattle.comparison.proofs.all_alike.Tie as tie
 
 abbrev Inv-loop : tie.InvT-loop
-Inv-loop ours theirs pairs n k₀ k = (k ≤ n) × (n ≡ 16 * statesIn ours) × AlikeFrom ours theirs pairs 0 (8 * k)
+Inv-loop ours theirs reached n k₀ k = (k ≤ n) × (n ≡ 16 * statesIn ours) × AlikeFrom ours theirs reached 0 (8 * k)
 
 abbrev μ-loop : tie.MeasureT-loop
-μ-loop ours theirs pairs n k₀ k = n - k
+μ-loop ours theirs reached n k₀ k = n - k
 
 states-requires : tie.Need-states-requires Inv-loop μ-loop
 states-requires c κs = search needs

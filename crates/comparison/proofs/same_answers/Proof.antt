@@ -1,4 +1,4 @@
--- `comparison::same_answers` meets its contract: the tables answer alike exactly when the states of every reached pair hold the same.
+-- `comparison::same_answers` meets its contract: the tables answer alike exactly when the states of every reached joint state hold the same.
 use mathlib.Core.Path.{sym, _∙_}
 use Rattle.comparison.proofs.AnswerLaws.{alike-answers}
 use borrow.Author.Needs.{needs}

@@ -1,6 +1,6 @@
 -- `comparison::same_held` meets its contract: the words decide.
 use Rattle.comparison.proofs.HeldLaws.{words-say}
-use Rattle.pairs.proofs.TogetherLaws.{our-form, their-form}
+use Rattle.joint_states.proofs.TogetherLaws.{our-form, their-form}
 use Rattle.comparison.proofs.same_held.Statement.{statement}
 use Rattle.comparison.proofs.same_held.Tie as tie
 

@@ -1,5 +1,5 @@
 -- `order_counterexample::evidence` meets its contract: in each case what was found is what the text says.
-use Rattle.order_counterexample.proofs.EvidenceLaws.{pair-sizes, told-pair, told-none, told-refusal}
+use Rattle.order_counterexample.proofs.EvidenceLaws.{rows-sizes, told-rows, told-none, told-refusal}
 use borrow.Author.Needs.{needs}
 use Rattle.order_counterexample.proofs.evidence.Statement.{statement}
 use Rattle.order_counterexample.proofs.evidence.Tie as tie
@@ -13,20 +13,20 @@ find-requires c κs = search needs
 enum-told : tie.Need-enum-told
 enum-told c = search needs
 
-slice-aggregate-pair : tie.Need-slice-aggregate-pair
-slice-aggregate-pair c = search needs
+slice-aggregate-two-rows : tie.Need-slice-aggregate-two-rows
+slice-aggregate-two-rows c = search needs
 
 columns-requires : tie.Need-columns-requires
 columns-requires c κs = search needs
 
-cast-pair : tie.Need-cast-pair
-cast-pair c = search needs
+cast-two-rows : tie.Need-cast-two-rows
+cast-two-rows c = search needs
 
-pair-requires : tie.Need-pair-requires
-pair-requires c κs =
+two-rows-requires : tie.Need-two-rows-requires
+two-rows-requires c κs =
     let told = c .before .before .before in
     let found = told .before .before .before .find in
-    let sizes = pair-sizes _ (found .result) (found .ensures .0) (told .enum-told .given .1) in
+    let sizes = rows-sizes _ (found .result) (found .ensures .0) (told .enum-told .given .1) in
     search needs
 
 enum-told-2 : tie.Need-enum-told-2
@@ -50,7 +50,7 @@ returns c =
     let count = shown .before .before in
     let told = count .before .before in
     let found = told .before .before .before in
-    told-pair _ _ (found .find .result) (search needs) (found .find .ensures .0) _ (count .columns .ensures) (told .enum-told .given .1) (shown .pair .ensures)
+    told-rows _ _ (found .find .result) (search needs) (found .find .ensures .0) _ (count .columns .ensures) (told .enum-told .given .1) (shown .two-rows .ensures)
 
 same-length-2 : tie.Need-same-length-2
 same-length-2 c = search needs
@@ -79,10 +79,10 @@ evidence-spec =
     slice-aggregate-find
     find-requires
     enum-told
-    slice-aggregate-pair
+    slice-aggregate-two-rows
     columns-requires
-    cast-pair
-    pair-requires
+    cast-two-rows
+    two-rows-requires
     enum-told-2
     none-requires
     enum-known-n

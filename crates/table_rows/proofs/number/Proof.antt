@@ -6,7 +6,7 @@ use denote.Ref.{now}
 use lib.ListN.{length}
 use borrow.Author.Needs.{needs}
 use Rattle.table_rows.specs.Rows.{RowsFound}
-use Rattle.table_rows.specs.Walk.{Opened, Visited, Walked, sizesOf}
+use Rattle.table_rows.specs.Walk.{Opened, RowsVisited, Walked, sizesGiven}
 use Rattle.table_rows.proofs.HeldLaws.{holding-length}
 use Rattle.table_rows.proofs.FoundLaws.{rows-over, rows-found}
 use Rattle.table_rows.proofs.number.Statement.{statement}
@@ -30,7 +30,7 @@ walk-rows-requires c κs =
     let o = c .before .before .before .before .before .before .before .open-pairs in
     let b = c .before .before .before .number-starts in
     let v = b .ensures .0 in
-    (subst (λ w. Visited (sizesOf (a .produced) (a .tested) (a .sets)) w (b .last .0) (b .result) 0) (sym (v .first)) v, search needs, search needs, search needs, omega (arith, o .ensures .2, b .ensures .1))
+    (subst (λ w. RowsVisited (sizesGiven (a .produced) (a .tested) (a .sets)) w (b .last .0) (b .result) 0) (sym (v .first)) v, search needs, search needs, search needs, omega (arith, o .ensures .2, b .ensures .1))
 
 same-length : tie.Need-same-length
 same-length c = search needs
@@ -41,8 +41,8 @@ returns c =
     let o = c .before .before .before .before .before .before .before .before .before .before .before .open-pairs in
     let b = c .before .before .before .before .before .before .before .number-starts in
     let r = c .before .before .before .walk-rows in
-    let w = subst (λ w. Walked (sizesOf (a .produced) (a .tested) (a .sets)) w (r .last .0) (r .result) (r .result)) (b .ensures .0 .first ∙ o .ensures .1) (r .ensures .0) in
-    (rows-over (a .produced) (a .tested) (a .sets) (now (a .work)) (r .last .0) (r .result) (omega arith) (omega arith) w (omega arith), r .ensures .1 ∙ b .ensures .1 ∙ o .ensures .2)
+    let w = subst (λ w. Walked (sizesGiven (a .produced) (a .tested) (a .sets)) w (r .last .0) (r .result) (r .result)) (b .ensures .0 .first ∙ o .ensures .1) (r .ensures .0) in
+    (rows-over (sizesGiven (a .produced) (a .tested) (a .sets)) (now (a .work)) (r .last .0) (r .result) (omega arith) (omega arith) w (omega arith), r .ensures .1 ∙ b .ensures .1 ∙ o .ensures .2)
 
 add-hold-rows : tie.Need-add-hold-rows
 add-hold-rows c = search needs
@@ -64,9 +64,9 @@ returns-2 c =
     let b = c .before .before .before .before .before .before .before .before .before .before .before .number-starts in
     let r = c .before .before .before .before .before .before .before .walk-rows in
     let h = c .before .before .hold-rows .ensures in
-    let w = subst (λ w. Walked (sizesOf (a .produced) (a .tested) (a .sets)) w (r .last .0) (r .result) (r .result)) (b .ensures .0 .first ∙ o .ensures .1) (r .ensures .0) in (
-      subst (λ d. RowsFound (a .produced) (a .tested) (a .sets) (now (a .work)) d (r .result)) (sym h)
-          (rows-found (a .produced) (a .tested) (a .sets) (now (a .work)) (r .last .0) (r .result) (omega arith) (omega arith) w (omega arith) (omega (arith, o .ensures .2, b .ensures .1, r .ensures .1))),
+    let w = subst (λ w. Walked (sizesGiven (a .produced) (a .tested) (a .sets)) w (r .last .0) (r .result) (r .result)) (b .ensures .0 .first ∙ o .ensures .1) (r .ensures .0) in (
+      subst (λ d. RowsFound (sizesGiven (a .produced) (a .tested) (a .sets)) (now (a .work)) d (r .result)) (sym h)
+          (rows-found (sizesGiven (a .produced) (a .tested) (a .sets)) (now (a .work)) (r .last .0) (r .result) (omega arith) (omega arith) w (omega arith) (omega (arith, o .ensures .2, b .ensures .1, r .ensures .1))),
       ap length h ∙ holding-length (a .produced + a .tested) (a .sets) (r .last .0) (r .result) (omega (arith, o .ensures .2, b .ensures .1, r .ensures .1)) (omega arith) ∙ r .ensures .1 ∙ b .ensures .1 ∙ o .ensures .2,
     )
 

@@ -16,7 +16,7 @@ same-length : tie.Need-same-length
 same-length c = search needs
 
 returns : tie.Need-returns
-returns c = let s = c .before .before .before .before .before .before .before .before .before .before .before .before in let a = c .before .before .before .before .before .before .supplied in (a .ensures .0, c .before .before .clear .ensures ∙ zeroed-whole (a .last .1 .1 .1 .0) (now (s .args .pairs)) (a .ensures .1))
+returns c = let s = c .before .before .before .before .before .before .before .before .before .before .before .before in let a = c .before .before .before .before .before .before .supplied in (a .ensures .0, c .before .before .clear .ensures ∙ zeroed-whole (a .last .1 .1 .1 .0) (now (s .args .reached)) (a .ensures .1))
 
 pub supplied-cleared-spec : {M : Type 1} → statement M
 supplied-cleared-spec = tie.close (tie.spec supplied-requires clear-requires same-length returns)

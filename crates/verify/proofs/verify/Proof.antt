@@ -1,13 +1,13 @@
 -- `verify::verify` meets its contract: the build is refused, or its table is put beside the supplier's.
 use mathlib.Core.List.{_++_}
 use lib.ListN.{length, take, drop}
-use Rattle.theory.specs.Scratch.{pairsLength}
+use Rattle.theory.specs.Scratch.{jointStatesLength}
 use Prim.Native.Nat.{_≤_}
 use lib.Seq.{length-take-le}
 use native.Mathlib.Omega.{arith}
 use mathlib.Core.Path.{sym, _∙_, ap}
 use denote.Ref.{now}
-use Rattle.verify.proofs.OwnLaws.{Granted, build-refused, build-granted, pairs-cleared}
+use Rattle.verify.proofs.OwnLaws.{Granted, build-refused, build-granted, joint-cleared}
 use borrow.Author.Needs.{needs}
 use Rattle.verify.proofs.verify.Statement.{statement}
 use Rattle.verify.proofs.verify.Tie as tie
@@ -38,17 +38,17 @@ slice-relend-prefix-supplied-cleared : tie.Need-slice-relend-prefix-supplied-cle
 slice-relend-prefix-supplied-cleared c = let g = granted (c .before) .1 .room in omega arith
 
 slice-aggregate-supplied-cleared-2 : tie.Need-slice-aggregate-supplied-cleared-2
-slice-aggregate-supplied-cleared-2 c = let g = granted (c .before .before) .1 .room in sym (length-take-le pairsLength (c .before .before .before .before .before .before .build .last .1 .0) (omega arith))
+slice-aggregate-supplied-cleared-2 c = let g = granted (c .before .before) .1 .room in sym (length-take-le jointStatesLength (c .before .before .before .before .before .before .build .last .1 .0) (omega arith))
 
 supplied-cleared-requires : tie.Need-supplied-cleared-requires
-supplied-cleared-requires c κs = let g = granted (c .before .before) .1 in let l = g .room in (g .own, length-take-le pairsLength (c .before .before .before .before .before .before .build .last .1 .0) (omega arith))
+supplied-cleared-requires c κs = let g = granted (c .before .before) .1 in let l = g .room in (g .own, length-take-le jointStatesLength (c .before .before .before .before .before .before .build .last .1 .0) (omega arith))
 
 same-length-2 : tie.Need-same-length-2
 same-length-2 c = search needs
 
 returns-2 : tie.Need-returns-2
 returns-2 c = let g = granted (c .before .before .before .before .before) .1 in let a = c .before .before .before .before .before .before .before .before .before .before .before .before .before .before .before .args in let k = c .before .before .before .before .before .before .before .before .before .build in let e = c .before .before .supplied-cleared .ensures in
-    (e .0 ∙ g .goes-on (now (a .table)), ap (λ p. p ++ drop pairsLength (k .last .1 .0)) (e .1) ∙ pairs-cleared (now (a .scratch)) (k .last .1 .0) (g .room) (k .ensures .1 .1 ∙ g .cleared) (search needs) ∙ sym (g .cleared))
+    (e .0 ∙ g .goes-on (now (a .table)), ap (λ p. p ++ drop jointStatesLength (k .last .1 .0)) (e .1) ∙ joint-cleared (now (a .scratch)) (k .last .1 .0) (g .room) (k .ensures .1 .1 ∙ g .cleared) (search needs) ∙ sym (g .cleared))
 
 pub verify-spec : {M : Type 1} → statement M
 verify-spec =

@@ -8,7 +8,7 @@ use denote.Ref.{now}
 use Rattle.theory.specs.Limits.{tableSizes}
 use Rattle.byte_rows.specs.Placed.{placed}
 use Rattle.byte_rows.proofs.PlacedLaws.{placed-row, placed-three}
-use Rattle.builder.specs.Written.{tableIn}
+use Rattle.builder.specs.Written.{storedTable}
 use borrow.Author.Needs.{needs}
 use Rattle.builder.proofs.write.write.Statement.{statement}
 use Rattle.builder.proofs.write.write.Tie as tie
@@ -50,7 +50,7 @@ same-length : tie.Need-same-length
 same-length c = search needs
 
 returns : tie.Need-returns
-unfolding tableIn
+unfolding storedTable
 returns c = let third = c .before .before .copy2 in let words = c .before .before .before .before .part3 in
     let second = c .before .before .before .before .before .before .before .copy in let next = c .before .before .before .before .before .before .before .before .part2 in
     let w = c .before .before .before .before .before .before .before .before .before .before .before .before in

@@ -1,7 +1,7 @@
 -- `query_check::sizes::sizes_refusal` meets its contract: the theory's tests, of the numbers that were read.
 use borrow.Author.Needs.{needs}
 use Rattle.theory.specs.Query.{sizesRefusal}
-use Rattle.query_check.specs.Sizes.{refusalOfSizes}
+use Rattle.query_check.specs.Sizes.{querySizesRefusal}
 use Rattle.query_check.proofs.sizes.sizes_refusal.Statement.{statement}
 use Rattle.query_check.proofs.sizes.sizes_refusal.Tie as tie
 
@@ -24,7 +24,7 @@ sized-requires : tie.Need-sized-requires
 sized-requires c κs = search needs
 
 returns : tie.Need-returns
-unfolding refusalOfSizes sizesRefusal
+unfolding querySizesRefusal sizesRefusal
 returns c = cc
 
 pub sizes-refusal-spec : {M : Type 1} → statement M

@@ -1,11 +1,11 @@
--- `settled::close::pass` meets its contract. The loop's invariant: the first i pairs were used.
+-- `settled::close::pass` meets its contract. The loop's invariant: the first i arrows were used.
 use Prim.Native.Nat.{_-_, _≤_}
 use native.Mathlib.Omega.{arith}
 use native.Mathlib.Numerals.{add-one}
 use mathlib.Core.Path.{_≡_, refl, _∙_, ap}
 use lib.ListN.{getD}
 use borrow.Author.Needs.{needs}
-use Rattle.settled.specs.Parts.{used, pass}
+use Rattle.settled.specs.Arrows.{used, pass}
 use Rattle.settled.proofs.close.pass.Statement.{statement}
 use Rattle.settled.proofs.close.pass.Tie as tie
 

@@ -7,7 +7,7 @@ use lib.ListN.{take}
 use lib.Seq.{take-all}
 use borrow.Author.Needs.{needs}
 use Rattle.orders.specs.Orders.{orderOf}
-use Rattle.settled.specs.Parts.{MaskOf}
+use Rattle.settled.specs.Arrows.{MaskOf}
 use Rattle.settled.proofs.MaskLaws.{mask-none, mask-next, narrow-at}
 use Rattle.settled.proofs.masks.mask.Statement.{statement}
 use Rattle.settled.proofs.masks.mask.Tie as tie

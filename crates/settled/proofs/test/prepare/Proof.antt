@@ -1,4 +1,4 @@
--- `settled::test::prepare` meets its contract: the pairs stand for the rules, the classes are theirs, and what is closed from nothing is settled by nothing.
+-- `settled::test::prepare` meets its contract: the arrows stand for the rules, the classes are theirs, and what is closed from nothing is settled by nothing.
 use borrow.Author.Needs.{needs}
 use Rattle.settled.proofs.TestLaws.{closes-none}
 use Rattle.settled.proofs.test.prepare.Statement.{statement}

@@ -10,7 +10,7 @@ use borrow.Author.Tests.{not-true, not-false}
 use Rattle.theory.specs.Tests.{inMask}
 use Rattle.orders.specs.Orders.{orderOf}
 use Rattle.settled.specs.declared.Tested.the-variants as tested
-use Rattle.settled.specs.Parts.{meets, Closes}
+use Rattle.settled.specs.Arrows.{meets, Closes}
 use Rattle.settled.proofs.MaskLaws.{narrow-at}
 use Rattle.settled.proofs.TestLaws.{Midway, Ended, midway-begins, midway-next, midway-fails, midway-last, midway-end, meets-there}
 use Rattle.settled.proofs.test.test.Statement.{statement}

@@ -7,7 +7,7 @@ use lib.ListN.{length, take, length-set}
 use lib.Pow.{pow-pos}
 use borrow.Author.Needs.{needs}
 use Rattle.theory.specs.Scratch.{heldPart}
-use Rattle.table_rows.specs.Walk.{stateOf, machineOf, Starting, sizesOf}
+use Rattle.table_rows.specs.Walk.{stateOf, machineOf, Starting, sizesGiven}
 use Rattle.table_rows.proofs.StateLaws.{state-start}
 use Rattle.table_rows.proofs.WalkLaws.{starting-none, starting-all, joined, joined-number, stored-start}
 use Rattle.table_rows.proofs.walk.number_starts.Statement.{statement}
@@ -15,7 +15,7 @@ use Rattle.table_rows.proofs.walk.number_starts.Tie as tie
 
 abbrev Inv-loop : tie.InvT-loop
 Inv-loop work₀ produced tested sets known₀ p₀ work known p =
-    Starting (sizesOf produced tested sets) (take heldPart work₀) work known p × (known ≤ p) × (p ≤ produced) × (length work ≡ length work₀)
+    Starting (sizesGiven produced tested sets) (take heldPart work₀) work known p × (known ≤ p) × (p ≤ produced) × (length work ≡ length work₀)
 
 abbrev μ-loop : tie.MeasureT-loop
 μ-loop work₀ produced tested sets known₀ p₀ work known p = produced - p
@@ -23,7 +23,7 @@ abbrev μ-loop : tie.MeasureT-loop
 loop-holds : tie.Need-loop-holds Inv-loop μ-loop
 loop-holds c =
     let a = c .before .args in
-    (starting-none (sizesOf (a .produced) (a .tested) (a .sets)) (now (a .work)) (c .before .pre .0), search needs, search needs, refl)
+    (starting-none (sizesGiven (a .produced) (a .tested) (a .sets)) (now (a .work)) (c .before .pre .0), search needs, search needs, refl)
 
 number-row-requires : tie.Need-number-row-requires Inv-loop μ-loop
 number-row-requires c κs =
@@ -54,7 +54,7 @@ loop-again c =
     let l = c .before .before .before .before .before .loop in
     let r = c .before .before .number-row in
     let j = r .ensures in
-    let z = sizesOf (a .produced) (a .tested) (a .sets) in
+    let z = sizesGiven (a .produced) (a .tested) (a .sets) in
     let bits = a .produced + a .tested in
     let words = take heldPart (now (a .work)) in
     let start = machineOf z words .start in
@@ -74,7 +74,7 @@ returns : tie.Need-returns Inv-loop μ-loop
 returns c =
     let a = c .before .before .before .args in
     let l = c .before .loop in
-    (starting-all (sizesOf (a .produced) (a .tested) (a .sets)) (take heldPart (now (a .work))) (omega arith) (l .inv .0), l .inv .3)
+    (starting-all (sizesGiven (a .produced) (a .tested) (a .sets)) (take heldPart (now (a .work))) (omega arith) (l .inv .0), l .inv .3)
 
 pub number-starts-spec : {M : Type 1} → statement M
 number-starts-spec =

@@ -6,14 +6,14 @@ use denote.Ref.{now}
 use lib.ListN.{length, take, length-set}
 use borrow.Author.Needs.{needs}
 use Rattle.theory.specs.Scratch.{heldPart}
-use Rattle.table_rows.specs.Walk.{Taking, sizesOf}
+use Rattle.table_rows.specs.Walk.{Taking, sizesGiven}
 use Rattle.table_rows.proofs.TakingLaws.{taking-all, taking-over, taking-more}
 use Rattle.table_rows.proofs.walk.take_sets.Statement.{statement}
 use Rattle.table_rows.proofs.walk.take_sets.Tie as tie
 
 abbrev Inv-loop : tie.InvT-loop
 Inv-loop work₀ produced tested sets count i p m known₀ s₀ work known s =
-    Taking (sizesOf produced tested sets) (take heldPart work₀) work known i p m s × (s ≤ sets) × (length work ≡ length work₀)
+    Taking (sizesGiven produced tested sets) (take heldPart work₀) work known i p m s × (s ≤ sets) × (length work ≡ length work₀)
 
 abbrev μ-loop : tie.MeasureT-loop
 μ-loop work₀ produced tested sets count i p m known₀ s₀ work known s = sets - s
@@ -37,7 +37,7 @@ returns c =
     let a = c .before .before .before .before .before .before .before .before .before .args in
     let l = c .before .before .before .before .before .before .before .loop in
     let j = c .before .before .before .number-row .ensures in
-    (taking-over (sizesOf (a .produced) (a .tested) (a .sets)) (take heldPart (now (a .work))) (l .inv .0) (omega arith) (c .before .before .before .before .with-set .ensures .0) j (omega arith), j .kept ∙ l .inv .2)
+    (taking-over (sizesGiven (a .produced) (a .tested) (a .sets)) (take heldPart (now (a .work))) (l .inv .0) (omega arith) (c .before .before .before .before .with-set .ensures .0) j (omega arith), j .kept ∙ l .inv .2)
 
 slot-requires : tie.Need-slot-requires Inv-loop μ-loop
 slot-requires c κs =
@@ -62,7 +62,7 @@ loop-again c =
     let l = c .before .before .before .before .before .before .before .before .loop in
     let r = c .before .before .before .before .number-row in
     let j = r .ensures in (
-      taking-more (sizesOf (a .produced) (a .tested) (a .sets)) (take heldPart (now (a .work))) (l .inv .0) (omega arith) (c .before .before .before .before .before .with-set .ensures .0) j (omega arith) (omega arith) (omega arith) (c .slot .result) (c .slot .ensures .0),
+      taking-more (sizesGiven (a .produced) (a .tested) (a .sets)) (take heldPart (now (a .work))) (l .inv .0) (omega arith) (c .before .before .before .before .before .with-set .ensures .0) j (omega arith) (omega arith) (omega arith) (c .slot .result) (c .slot .ensures .0),
       search needs,
       length-set (r .last .0) _ _ ∙ j .kept ∙ l .inv .2,
     )
@@ -74,7 +74,7 @@ returns-2 : tie.Need-returns-2 Inv-loop μ-loop
 returns-2 c =
     let a = c .before .before .before .args in
     let l = c .before .loop in
-    (taking-all (sizesOf (a .produced) (a .tested) (a .sets)) (take heldPart (now (a .work))) (l .inv .0) (omega arith), l .inv .2)
+    (taking-all (sizesGiven (a .produced) (a .tested) (a .sets)) (take heldPart (now (a .work))) (l .inv .0) (omega arith), l .inv .2)
 
 pub take-sets-spec : {M : Type 1} → statement M
 take-sets-spec =

@@ -3,7 +3,7 @@ use denote.Ref.{now}
 use lib.ListN.{take}
 use borrow.Author.Needs.{needs}
 use Rattle.theory.specs.Scratch.{heldPart}
-use Rattle.table_rows.specs.Walk.{sizesOf}
+use Rattle.table_rows.specs.Walk.{sizesGiven}
 use Rattle.table_rows.proofs.TakingLaws.{taking-none}
 use Rattle.table_rows.proofs.walk.visit.Statement.{statement}
 use Rattle.table_rows.proofs.walk.visit.Tie as tie
@@ -18,7 +18,7 @@ take-sets-requires : tie.Need-take-sets-requires
 take-sets-requires c κs =
     let s = c .before .before .before .before .before .before in
     let a = s .args in
-    (taking-none (sizesOf (a .produced) (a .tested) (a .sets)) (take heldPart (now (a .work))) (s .pre .0) (s .pre .1) (c .before .before .before .row-order .ensures) (c .before .row-choice .ensures), search needs, search needs, search needs, search needs)
+    (taking-none (sizesGiven (a .produced) (a .tested) (a .sets)) (take heldPart (now (a .work))) (s .pre .0) (s .pre .1) (c .before .before .before .row-order .ensures) (c .before .row-choice .ensures), search needs, search needs, search needs, search needs)
 
 same-length : tie.Need-same-length
 same-length c = search needs

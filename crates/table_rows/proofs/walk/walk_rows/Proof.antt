@@ -6,13 +6,13 @@ use denote.Ref.{now}
 use lib.ListN.{length, take}
 use borrow.Author.Needs.{needs}
 use Rattle.theory.specs.Scratch.{heldPart}
-use Rattle.table_rows.specs.Walk.{Visited, Walked, sizesOf}
+use Rattle.table_rows.specs.Walk.{RowsVisited, Walked, sizesGiven}
 use Rattle.table_rows.proofs.walk.walk_rows.Statement.{statement}
 use Rattle.table_rows.proofs.walk.walk_rows.Tie as tie
 
 abbrev Inv-loop : tie.InvT-loop
 Inv-loop work₀ produced tested sets count known₀ i₀ work known i =
-    Visited (sizesOf produced tested sets) (take heldPart work₀) work known i × (i ≤ known) × (known ≤ 128) × (length work ≡ length work₀)
+    RowsVisited (sizesGiven produced tested sets) (take heldPart work₀) work known i × (i ≤ known) × (known ≤ 128) × (length work ≡ length work₀)
 
 abbrev μ-loop : tie.MeasureT-loop
 μ-loop work₀ produced tested sets count known₀ i₀ work known i = 128 - i
@@ -26,7 +26,7 @@ visit-requires : tie.Need-visit-requires Inv-loop μ-loop
 visit-requires c κs =
     let l = c .before .before .loop in
     let a = c .before .before .before .before .args in
-    (subst (λ w. Visited (sizesOf (a .produced) (a .tested) (a .sets)) w (l .work) (l .known) (l .i)) (sym (l .inv .0 .first)) (l .inv .0), search needs, search needs, search needs, search needs, omega arith)
+    (subst (λ w. RowsVisited (sizesGiven (a .produced) (a .tested) (a .sets)) w (l .work) (l .known) (l .i)) (sym (l .inv .0 .first)) (l .inv .0), search needs, search needs, search needs, search needs, omega arith)
 
 same-length : tie.Need-same-length Inv-loop μ-loop
 same-length c = search needs
@@ -36,7 +36,7 @@ returns c =
     let a = c .before .before .before .before .before .before .before .before .args in
     let l = c .before .before .before .before .before .before .loop in
     let v = c .before .before .before .visit in
-    let w = subst (λ w. Walked (sizesOf (a .produced) (a .tested) (a .sets)) w (v .last .0) (v .result) (l .i + 1)) (l .inv .0 .first) (v .ensures .0) in
+    let w = subst (λ w. Walked (sizesGiven (a .produced) (a .tested) (a .sets)) w (v .last .0) (v .result) (l .i + 1)) (l .inv .0 .first) (v .ensures .0) in
     (record { within = search needs; fits = λ f. absurd (omega arith); over = w .over }, v .ensures .1 ∙ l .inv .3)
 
 add-i : tie.Need-add-i Inv-loop μ-loop
@@ -50,7 +50,7 @@ loop-again c =
     let a = c .before .before .before .before .before .before .before .before .args in
     let l = c .before .before .before .before .before .before .loop in
     let v = c .before .before .before .visit in
-    let w = subst (λ w. Walked (sizesOf (a .produced) (a .tested) (a .sets)) w (v .last .0) (v .result) (l .i + 1)) (l .inv .0 .first) (v .ensures .0) in
+    let w = subst (λ w. Walked (sizesGiven (a .produced) (a .tested) (a .sets)) w (v .last .0) (v .result) (l .i + 1)) (l .inv .0 .first) (v .ensures .0) in
     (w .fits (omega arith), w .within, search needs, v .ensures .1 ∙ l .inv .3)
 
 same-length-2 : tie.Need-same-length-2 Inv-loop μ-loop
@@ -61,7 +61,7 @@ returns-2 c =
     let a = c .before .before .before .args in
     let l = c .before .loop in
     let e : l .i ≡ l .known = omega arith in
-    (record { within = search needs; fits = λ f. subst (λ k. Visited (sizesOf (a .produced) (a .tested) (a .sets)) (take heldPart (now (a .work))) (l .work) (l .known) k) e (l .inv .0); over = λ m. absurd (omega arith) }, l .inv .3)
+    (record { within = search needs; fits = λ f. subst (λ k. RowsVisited (sizesGiven (a .produced) (a .tested) (a .sets)) (take heldPart (now (a .work))) (l .work) (l .known) k) e (l .inv .0); over = λ m. absurd (omega arith) }, l .inv .3)
 
 pub walk-rows-spec : {M : Type 1} → statement M
 walk-rows-spec =

@@ -1,4 +1,0 @@
--- What the proofs of this crate's functions share, and what callers know of pairs.
-pub mod TogetherLaws
-pub mod SetLaws
-pub mod ReachLaws
