@@ -33,6 +33,11 @@ done-as {before} {after} {r} e d = subst (λ x. Done x before after r) (sym e) d
 pub done-refused : {o : Outcome} {before : Bytes} {r : Built} (n : ℕ) → o ≡ refused n → r ≡ builtAnswer (refused n) → Done o before before r
 done-refused n e a = done-as e (record { answer = a; output = refl })
 
+-- what is done with the table that was constructed
+pub done-constructed : {k : theory.Constructed} {t : Table} → k ≡ table t → {before after : Bytes} {r : Built} → Done (delivered (table t) (length before)) before after r →
+    Done (delivered k (length before)) before after r
+done-constructed e {before} d = done-as (ap (λ o. delivered o (length before)) e) d
+
 -- where constructing is refused, so is the build
 pub constructing-refused : (b : Bytes) {work d : Bytes} {k : Constructed} {r : Built} → Leaves (construct (readQuery b)) work k → k .refusal ≢ passed → r ≡ builtAnswer (refused (k .refusal)) →
     Done (delivered (construct (readQuery b)) (length d)) d d r

@@ -1,4 +1,4 @@
--- No listing is longer than 7,557 bytes: the numbers in it have at most three digits, and the held bits at most five.
+-- No listing is longer than 7,547 bytes: the numbers in it have at most three digits, and the held bits at most five.
 use Prim.Native.Nat.{ℕ, zero, suc, _+_, _*_, _/_, _≤_, _<_}
 use native.Mathlib.Nat.{suc-mul, mul-le-mul-right, le-trans}
 use native.Mathlib.Omega.{arith}

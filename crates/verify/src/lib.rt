@@ -56,7 +56,7 @@ fn supplied_cleared(query: &[u8], ours: &[u8], table: &[u8], reached: &mut [u8])
     refusal
 }
 
-// Verify a supplier's table against a query, whatever their bytes and whatever is lent: the query's checks 1 to 6, 9 for scratch, 7 and 8; then the table's form,
+// Verify a supplier's table against a query, whatever their bytes and whatever is lent: the query's checks 1 to 6, 9 for scratch, 8; then the table's form,
 // 12 and 13. 0 where the table is accepted.
 pub fn verify(query: &[u8], table: &[u8], scratch: &mut [u8]) -> u8
     ensures { λ r. ⌜ r ≡ verifyRefusal (now (query .entry)) (now (table .entry)) (length (now (scratch .entry))) ⌝ }

@@ -18,10 +18,10 @@ use Rattle.joint_states.proofs.add_starts.Statement.{statement}
 use Rattle.joint_states.proofs.add_starts.Tie as tie
 
 abbrev Inv-loop : tie.InvT-loop
-Inv-loop ours theirs pairs₀ produced count₀ p₀ reached count p = (p ≤ produced) × (produced ≡ producedIn ours) × (length reached ≡ length pairs₀) × Added 0 (map (startJointState ours theirs) (upFrom 0 p)) pairs₀ reached count
+Inv-loop ours theirs reached₀ produced count₀ p₀ reached count p = (p ≤ produced) × (produced ≡ producedIn ours) × (length reached ≡ length reached₀) × Added 0 (map (startJointState ours theirs) (upFrom 0 p)) reached₀ reached count
 
 abbrev μ-loop : tie.MeasureT-loop
-μ-loop ours theirs pairs₀ produced count₀ p₀ reached count p = produced - p
+μ-loop ours theirs reached₀ produced count₀ p₀ reached count p = produced - p
 
 produced-requires : tie.Need-produced-requires Inv-loop μ-loop
 produced-requires c κs = search needs

@@ -10,10 +10,10 @@ use Rattle.joint_states.proofs.close.Statement.{statement}
 use Rattle.joint_states.proofs.close.Tie as tie
 
 abbrev Inv-loop : tie.InvT-loop
-Inv-loop ours theirs pairs₀ reached = JointWalking ours theirs reached × ((j : ℕ) → inBits pairs₀ j ≡ true → inBits reached j ≡ true)
+Inv-loop ours theirs reached₀ reached = JointWalking ours theirs reached × ((j : ℕ) → inBits reached₀ j ≡ true → inBits reached j ≡ true)
 
 abbrev μ-loop : tie.MeasureT-loop
-μ-loop ours theirs pairs₀ reached = maxJointStates - jointStateCount reached
+μ-loop ours theirs reached₀ reached = maxJointStates - jointStateCount reached
 
 loop-holds : tie.Need-loop-holds Inv-loop μ-loop
 loop-holds c = (c .before .before .before .pre, λ j k. k)

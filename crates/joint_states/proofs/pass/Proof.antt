@@ -14,10 +14,10 @@ use Rattle.joint_states.proofs.pass.Statement.{statement}
 use Rattle.joint_states.proofs.pass.Tie as tie
 
 abbrev Inv-loop : tie.InvT-loop
-Inv-loop ours theirs pairs₀ n count₀ k₀ reached count k = (k ≤ n) × (n ≡ 16 * statesIn ours) × (length reached ≡ length pairs₀) × JointVisited ours theirs 0 (8 * k) pairs₀ reached count
+Inv-loop ours theirs reached₀ n count₀ k₀ reached count k = (k ≤ n) × (n ≡ 16 * statesIn ours) × (length reached ≡ length reached₀) × JointVisited ours theirs 0 (8 * k) reached₀ reached count
 
 abbrev μ-loop : tie.MeasureT-loop
-μ-loop ours theirs pairs₀ n count₀ k₀ reached count k = n - k
+μ-loop ours theirs reached₀ n count₀ k₀ reached count k = n - k
 
 states-requires : tie.Need-states-requires Inv-loop μ-loop
 states-requires c κs = search needs
@@ -51,7 +51,7 @@ same-length c = search needs
 returns : tie.Need-returns Inv-loop μ-loop
 returns c = let l = c .before .loop in let a = c .before .before .before .before .before .before .args in
     let end : 8 * l .k ≡ maxStates * statesIn (now (a .ours)) = omega arith in
-    subst (λ n. JointVisited (now (a .ours)) (now (a .theirs)) 0 n (now (a .pairs)) (l .pairs) (l .count)) end (l .inv .3)
+    subst (λ n. JointVisited (now (a .ours)) (now (a .theirs)) 0 n (now (a .reached)) (l .reached) (l .count)) end (l .inv .3)
 
 pub pass-spec : {M : Type 1} → statement M
 pass-spec =

@@ -12,10 +12,10 @@ use Rattle.joint_states.proofs.turn_byte.Statement.{statement}
 use Rattle.joint_states.proofs.turn_byte.Tie as tie
 
 abbrev Inv-loop : tie.InvT-loop
-Inv-loop ours theirs pairs₀ k count₀ j₀ reached count j = (j ≤ 8) × (length reached ≡ length pairs₀) × JointVisited ours theirs (8 * k) (8 * k + j) pairs₀ reached count
+Inv-loop ours theirs reached₀ k count₀ j₀ reached count j = (j ≤ 8) × (length reached ≡ length reached₀) × JointVisited ours theirs (8 * k) (8 * k + j) reached₀ reached count
 
 abbrev μ-loop : tie.MeasureT-loop
-μ-loop ours theirs pairs₀ k count₀ j₀ reached count j = 8 - j
+μ-loop ours theirs reached₀ k count₀ j₀ reached count j = 8 - j
 
 slice-read-if1 : tie.Need-slice-read-if1 Inv-loop μ-loop
 slice-read-if1 c = search needs

@@ -21,10 +21,10 @@ use Rattle.joint_states.proofs.visit.Statement.{statement}
 use Rattle.joint_states.proofs.visit.Tie as tie
 
 abbrev Inv-loop : tie.InvT-loop
-Inv-loop ours theirs pairs₀ i sets our-row their-row count₀ s₀ reached count s = (s ≤ sets) × (sets ≡ setsIn ours) × (length reached ≡ length pairs₀) × Added i (map (nextJointState ours theirs i) (upFrom 0 s)) pairs₀ reached count
+Inv-loop ours theirs reached₀ i sets our-row their-row count₀ s₀ reached count s = (s ≤ sets) × (sets ≡ setsIn ours) × (length reached ≡ length reached₀) × Added i (map (nextJointState ours theirs i) (upFrom 0 s)) reached₀ reached count
 
 abbrev μ-loop : tie.MeasureT-loop
-μ-loop ours theirs pairs₀ i sets our-row their-row count₀ s₀ reached count s = sets - s
+μ-loop ours theirs reached₀ i sets our-row their-row count₀ s₀ reached count s = sets - s
 
 sets-requires : tie.Need-sets-requires Inv-loop μ-loop
 sets-requires c κs = search needs
