@@ -14,6 +14,7 @@ use Rattle.theory.proofs.RefusalLaws.{refused-then, refused-else, pick-
 
 -- The sizes are within their limits, and the bytes are as many as they imply.
 pub record SizesFit (b : Bytes) : Type 0 where
+  pub some-column : 1 ≤ columnCount b
   pub few-columns : columnCount b ≤ maxColumns
   pub some-produced : 1 ≤ producedCount b
   pub few-produced : producedCount b ≤ maxProduced
@@ -35,6 +36,7 @@ sizes-fit b e =
     let n = neither (ltb (columnCount b) 1) (ltb maxColumns (columnCount b)) (s2 .0) in
     let p = neither (ltb (producedCount b) 1) (ltb maxProduced (producedCount b)) (s3 .0) in
     record {
+      some-column = ltb-false (columnCount b) 1 (n .0);
       few-columns = ltb-false maxColumns (columnCount b) (n .1);
       some-produced = ltb-false (producedCount b) 1 (p .0);
       few-produced = ltb-false maxProduced (producedCount b) (p .1);

@@ -27,6 +27,7 @@ two-rows-requires c κs =
     let told = c .before .before .before in
     let found = told .before .before .before .find in
     let sizes = rows-sizes _ (found .result) (found .ensures .0) (told .enum-told .given .1) in
+    let some = sizes .some-column in
     search needs
 
 enum-told-2 : tie.Need-enum-told-2
