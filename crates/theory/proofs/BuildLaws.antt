@@ -11,7 +11,7 @@ use Rattle.theory.specs.Limits.{maxStates, scratchLength}
 use Rattle.theory.specs.Orders.{Query, WellFormed}
 use Rattle.theory.specs.NumberingWalk.{More}
 use Rattle.theory.specs.Construction.{sizesOfQuery, answersOf, State, MorePairs}
-use Rattle.theory.specs.Refusals.{passed, orderings-refused, space-refused}
+use Rattle.theory.specs.Refusals.{passed, orderings-refused, states-refused, space-refused}
 use Rattle.theory.specs.Query.{Bytes, readQuery, queryRefusal}
 use Rattle.theory.specs.Table.{Table, tableOf, walkedTable, writeTable}
 use Rattle.theory.specs.Build.{Constructed, too-many, table, queryTable, construct, Constructs, many-states, its-table, Outcome, refused, built, delivered, outcome, OutcomeMeans, query-refused, scratch-short, not-constructed, output-short, table-built}
@@ -19,6 +19,7 @@ use Rattle.theory.proofs.Reflect.{says-eqb, says-ltb}
 use Rattle.theory.proofs.AnswerLaws.{decides-tree}
 use Rattle.theory.proofs.MachineLaws.{numbered-many}
 use Rattle.theory.proofs.QueryLaws.{query-few}
+use Rattle.theory.proofs.ReadLaws.{query-formed}
 use Rattle.theory.proofs.StatePairs.{states-pairs}
 
 module _ (q : Query) where
@@ -44,6 +45,11 @@ module _ (q : Query) where
       go : {b : Bool} → Says (More maxStates (State q)) b → (elim b [ true ↦ too-many | false ↦ table (queryTable q) ] ≡ too-many) ↔ MorePairs q maxStates
       go (holds m) = (λ e. states-pairs q formed maxStates .0 m, λ p. refl)
       go (fails k) = (λ e. let z : _≡_ {A = ℕ} 0 1 = cc in let f : ⊥ = omega arith in absurd f, λ p. absurd (k (states-pairs q formed maxStates .1 p)))
+
+-- the number of a refusal
+abbrev refusalNumber : Outcome → ℕ
+refusalNumber (refused n) = n
+refusalNumber (built t) = passed
 
 module _ (query : Bytes) (scratch output : ℕ) where
   abbrev lent : Bool → Outcome
@@ -78,15 +84,32 @@ module _ (query : Bytes) (scratch output : ℕ) where
 
   -- Refusal 7 is never given.
   pub never-seven : outcome query scratch output ≢ refused orderings-refused
-  never-seven = go (outcome-means)
+  never-seven = go outcome-means
     where
-      number : Outcome → ℕ
-      number (refused n) = n
-      number (built t) = passed
-
       go : {o : Outcome} → OutcomeMeans query scratch output o → o ≢ refused orderings-refused
-      go (query-refused _) e = let n = ap number e in let few = query-few query in omega arith
-      go (scratch-short _ _) e = let n = ap number e in omega arith
-      go (not-constructed _ _ _) e = let n = ap number e in omega arith
-      go (output-short _ _ _ _) e = let n = ap number e in omega arith
-      go (table-built _ _ _ _) e = let n = ap number e in omega arith
+      go (query-refused _) e = let n = ap refusalNumber e in let few = query-few query in omega arith
+      go (scratch-short _ _) e = let n = ap refusalNumber e in omega arith
+      go (not-constructed _ _ _) e = let n = ap refusalNumber e in omega arith
+      go (output-short _ _ _ _) e = let n = ap refusalNumber e in omega arith
+      go (table-built _ _ _ _) e = let n = ap refusalNumber e in omega arith
+
+  -- Refusal 8 is given exactly when checks 1 to 6 pass, the scratch is long enough and there are more than 128 pairs no two of which share a row, whatever the output.
+  pub eight-refused-exactly : (outcome query scratch output ≡ refused states-refused) ↔ ((queryRefusal query ≡ passed) × (scratchLength ≤ scratch) × MorePairs (readQuery query) maxStates)
+  eight-refused-exactly = (λ e. given outcome-means e, λ m. gives (m .0) (m .1) (m .2) outcome-means)
+    where
+      pairs : queryRefusal query ≡ passed → More maxStates (State (readQuery query)) ↔ MorePairs (readQuery query) maxStates
+      pairs c = states-pairs (readQuery query) (query-formed query c) maxStates
+
+      given : {o : Outcome} → OutcomeMeans query scratch output o → o ≡ refused states-refused → (queryRefusal query ≡ passed) × (scratchLength ≤ scratch) × MorePairs (readQuery query) maxStates
+      given (query-refused _) e = let n = ap refusalNumber e in let few = query-few query in absurd (omega arith)
+      given (scratch-short _ _) e = let n = ap refusalNumber e in absurd (omega arith)
+      given (not-constructed c s (many-states m)) e = (c, s, pairs c .0 m)
+      given (output-short _ _ _ _) e = let n = ap refusalNumber e in absurd (omega arith)
+      given (table-built _ _ _ _) e = let n = ap refusalNumber e in absurd (omega arith)
+
+      gives : queryRefusal query ≡ passed → scratchLength ≤ scratch → MorePairs (readQuery query) maxStates → {o : Outcome} → OutcomeMeans query scratch output o → o ≡ refused states-refused
+      gives c s m (query-refused f) = absurd (f c)
+      gives c s m (scratch-short _ h) = absurd (omega arith)
+      gives c s m (not-constructed _ _ _) = refl
+      gives c s m (output-short _ _ (its-table f) _) = absurd (f (pairs c .1 m))
+      gives c s m (table-built _ _ (its-table f) _) = absurd (f (pairs c .1 m))

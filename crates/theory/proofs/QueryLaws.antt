@@ -1,5 +1,5 @@
 -- The sizes of a query, and their limits where it passes checks 1 to 6.
-use Prim.Native.Nat.{ℕ, zero, suc, _+_, _*_, _≤_}
+use Prim.Native.Nat.{ℕ, _+_, _*_, _≤_}
 use native.Mathlib.Omega.{arith}
 use mathlib.Core.Path.{_≡_, refl, _∙_, ap₂}
 use lib.Dec.{ltb, eqb}
@@ -10,7 +10,7 @@ use Rattle.theory.specs.Orders.{interesting}
 use Rattle.theory.specs.Refusals.{passed, twin-refused, firstRefusal, firstOf}
 use Rattle.theory.specs.Query.{Bytes, columnCount, producedCount, testedCount, setCount, dependencyCount, orderCount, itemCount, orderAt, readQuery, outside, sizesRefusal, bodyRefusal, orderRefusal, dependencyRefusal, itemRefusal, twinRefusal, queryRefusal}
 use Rattle.theory.proofs.RangeLaws.{entry-count}
-use Rattle.theory.proofs.RefusalLaws.{refused-then, refused-else, pick-either, neither, or-passed}
+use Rattle.theory.proofs.RefusalLaws.{refused-then, refused-else, pick-either, neither, or-passed, first-either}
 
 -- The sizes are within their limits, and the bytes are as many as they imply.
 pub record SizesFit (b : Bytes) : Type 0 where
@@ -54,10 +54,6 @@ query-sizes b e = sizes-fit b (or-passed (sizesRefusal b) (firstRefusal (firstOf
 abbrev Few : ℕ → Type 0
 Few n = n ≤ twin-refused
 
-items-few : (check : ℕ → ℕ) → ((i : ℕ) → Few (check i)) → (n : ℕ) → Few (firstOf check n)
-items-few check few zero = omega arith
-items-few check few (suc n) = pick-either Few (eqb (firstOf check n) passed) (few n) (items-few check few n)
-
 item-few : (b : Bytes) (i : ℕ) → Few (itemRefusal b i)
 unfolding itemRefusal orderRefusal dependencyRefusal bodyRefusal
 item-few b i = search (pick-either Few, leb-true, refl) depth 12
@@ -69,7 +65,7 @@ sizes-few b = search (pick-either Few, leb-true, refl) depth 12
 pub query-few : (b : Bytes) → Few (queryRefusal b)
 unfolding queryRefusal twinRefusal
 query-few b =
-    let items = items-few (itemRefusal b) (item-few b) (itemCount b) in
+    let items = first-either Few (itemRefusal b) (omega arith) (item-few b) (itemCount b) in
     let twins : Few (twinRefusal b) = search (pick-either Few, leb-true, refl) in
     pick-either Few (eqb (sizesRefusal b) passed) (pick-either Few (eqb (firstOf (itemRefusal b) (itemCount b)) passed) twins items) (sizes-few b)
 

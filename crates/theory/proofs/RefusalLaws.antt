@@ -6,6 +6,7 @@ use native.Mathlib.Omega.{arith}
 use mathlib.Core.Path.{_≡_, refl, sym, _∙_, ap}
 use mathlib.Core.Bool.{Bool, true, false, _||_, true≢false}
 use mathlib.Core.Logic.{⊎-elim}
+use lib.Dec.{eqb}
 use borrow.Author.Tests.{ne-eqb}
 use Rattle.theory.specs.Tests.{pick, Says, holds, fails}
 use Rattle.theory.specs.Refusals.{passed, firstRefusal, firstOf}
@@ -40,6 +41,11 @@ or-passed a b e = go (says-eqb a passed) e
     go : {t : Bool} → Says (a ≡ passed) t → pick t b a ≡ passed → (a ≡ passed) × (b ≡ passed)
     go (holds h) f = (h, f)
     go (fails h) f = absurd (h f)
+
+-- what holds of no refusal and of what each check says holds of the first refusal
+pub first-either : (P : ℕ → Type 0) (check : ℕ → ℕ) → P passed → ((i : ℕ) → P (check i)) → (n : ℕ) → P (firstOf check n)
+first-either P check none each zero = none
+first-either P check none each (suc n) = pick-either P (eqb (firstOf check n) passed) (each n) (first-either P check none each n)
 
 module _ (check : ℕ → ℕ) where
   -- z is what the check of a turn said: a turn that goes on, a turn that refuses, and the end

@@ -3,17 +3,20 @@
 use Prim.Native.Nat.{ℕ, _<_}
 use native.Mathlib.Omega.{arith}
 use mathlib.Core.Path.{_≡_, refl}
-use mathlib.Core.Logic.{_↔_, _⊎_, inl, inr, ⊎-elim}
+use mathlib.Core.Logic.{_≢_, _↔_, _⊎_, inl, inr, ⊎-elim}
 use mathlib.Core.List.{List, _∷_}
 use lib.ListN.{length}
+use borrow.Author.Tests.{eqb-false}
 use Rattle.theory.specs.Orders.{Order, Query}
 use Rattle.theory.specs.Construction.{sizesOfQuery}
-use Rattle.theory.specs.Refusals.{passed, answer-refused}
+use Rattle.theory.specs.Refusals.{passed, orderings-refused, answer-refused}
 use Rattle.theory.specs.Query.{Bytes, readQuery}
-use Rattle.theory.specs.Table.{Table, machineIn, tableRefusal}
+use Rattle.theory.specs.Table.{Table, machineIn, formRefusal, startsRefusal, successorsRefusal, heldRefusal, tableRefusal}
 use Rattle.theory.specs.Build.{too-many, table, Constructs, many-states, its-table, built, outcome}
 use Rattle.theory.specs.Lookups.{Lookup, entry, run, Answers, Faithful}
 use Rattle.theory.specs.Verification.{SameSizes, verifyRefusal, WrongAnswer, Buildable, Verdict, query-refused, scratch-short, not-constructed, form-refused, sizes-differ, answer-wrong, accepted}
+use Rattle.theory.proofs.RefusalLaws.{pick-either, first-either}
+use Rattle.theory.proofs.QueryLaws.{query-few}
 use Rattle.theory.proofs.RowTheorem.{row-theorem}
 use Rattle.theory.proofs.LookupLaw.{lookup-law}
 use Rattle.theory.proofs.JointLaws.{same-sym, Covers, covers-same}
@@ -28,6 +31,14 @@ apart (many-states k) (its-table n) = n k
 -- a faithful table has the query's sizes
 pub faithful-sizes : {q : Query} {t : Bytes} → Faithful q t → SameSizes q t
 faithful-sizes f = record { produced = f .produced-size; tested = f .tested-size; sets = f .sets-size }
+
+-- the table check refuses with 1, 2 and 11 only
+abbrev NotSeven : ℕ → Type 0
+NotSeven n = n ≢ orderings-refused
+
+table-never-seven : (t : Bytes) → NotSeven (tableRefusal t)
+unfolding tableRefusal formRefusal startsRefusal successorsRefusal heldRefusal
+table-never-seven t = search (pick-either NotSeven, first-either NotSeven, eqb-false) depth 12
 
 -- What is known of an accepted table.
 pub record Accepted (query t : Bytes) (scratch : ℕ) : Type 0 where
@@ -47,6 +58,19 @@ module _ (query t : Bytes) (scratch : ℕ) where
 
   pub accepted-facts : verifyRefusal query t scratch ≡ passed → Accepted query t scratch
   accepted-facts = accepted-when (verify-means query t scratch)
+
+  -- Refusal 7 is never given.
+  pub verify-never-seven : verifyRefusal query t scratch ≢ orderings-refused
+  verify-never-seven = go (verify-means query t scratch)
+    where
+      go : {r : ℕ} → Verdict query t scratch r → NotSeven r
+      go (query-refused _) e = let few = query-few query in omega arith
+      go (scratch-short _ _) e = omega arith
+      go (not-constructed _ _ _) e = omega arith
+      go (form-refused _ _) e = table-never-seven t e
+      go (sizes-differ _ _ _) e = omega arith
+      go (answer-wrong _ _ _ _) e = omega arith
+      go (accepted _ _ _ _) e = omega arith
 
   -- where no check before 13 refuses
   module _ (b : Buildable query scratch) (passes : tableRefusal t ≡ passed) (sizes : SameSizes (readQuery query) t) where

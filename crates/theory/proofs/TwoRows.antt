@@ -13,7 +13,7 @@ use Rattle.theory.specs.Tests.{Says, holds, fails, member, upFrom, bitsO
 use Rattle.theory.specs.Orders.{Order, Query, interesting, rulesOf, After}
 use Rattle.theory.specs.Choices.{inForce, rulesUnder, setsOf}
 use Rattle.theory.specs.Settled.{isHeld, Exact}
-use Rattle.theory.specs.Refusals.{passed, space-refused, handle-refused}
+use Rattle.theory.specs.Refusals.{passed, orderings-refused, space-refused, handle-refused}
 use Rattle.theory.specs.Query.{Bytes, readQuery, queryRefusal}
 use Rattle.theory.specs.Table.{Answer, grant, refuse}
 use Rattle.theory.specs.Counterexamples.{Named, Askable, standing, lookedFor, rulesChosen, Derivable, Shows, query-refused, not-named, rows-short, none, two-rows}
@@ -22,6 +22,7 @@ use Rattle.theory.proofs.ListLaws.{member-getD, member-upFrom, upFrom-m
 use Rattle.theory.proofs.RuleLaws.{rules-same}
 use Rattle.theory.proofs.ChoiceNumbers.{bits-length, bits-entry}
 use Rattle.theory.proofs.SettledLaws.{member-those, those-member}
+use Rattle.theory.proofs.QueryLaws.{query-few}
 use Rattle.theory.proofs.ReadLaws.{query-formed}
 use Rattle.theory.proofs.ConstructionLaws.{query-exactly}
 use Rattle.theory.proofs.AnyOrder.{after-same}
@@ -78,6 +79,14 @@ module _ (query : Bytes) (produced sets order : ℕ) where
   none-held s e ss same said =
       let t = after-same q start ss (setsOf (q .sets) sets) same goal in
       says-one (says-as (t .0) (t .1) said) (shows-exactly s e .derived)
+
+  -- Refusal 7 is never given.
+  pub shows-never-seven : {rows : Bytes} {a : Answer} {after : Bytes} → Shows query produced sets order rows a after → a .refusal ≢ orderings-refused
+  shows-never-seven (query-refused f) e = let few = query-few query in omega arith
+  shows-never-seven (not-named c f) e = omega arith
+  shows-never-seven (rows-short c n l) e = omega arith
+  shows-never-seven (none k d) e = omega arith
+  shows-never-seven (two-rows k d one two b) e = omega arith
 
   -- Each answer comes under its condition, ..
   pub query-answered : {rows : Bytes} {a : Answer} {after : Bytes} → Shows query produced sets order rows a after → queryRefusal query ≢ passed → a ≡ refuse (queryRefusal query)
