@@ -40,3 +40,4 @@ pub mod SuppliedTables
 pub mod FewestRows
 pub mod AnyOrder
 pub mod TwoRows
+pub mod AskedRows

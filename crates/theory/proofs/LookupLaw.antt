@@ -9,7 +9,7 @@ use lib.Dec.{ltb}
 use lib.ListN.{length, getD, length-append}
 use borrow.Author.Tests.{lt-ltb, le-ltb}
 use Rattle.theory.specs.Tests.{pick, Says, holds, fails}
-use Rattle.theory.specs.Orders.{Order, Rule, Query, interesting, rulesOf, Derived}
+use Rattle.theory.specs.Orders.{Order, Rule, Query, interesting, rulesOf, Derived, After}
 use Rattle.theory.specs.Rows.{HoldsOfRows}
 use Rattle.theory.specs.Refusals.{passed, handle-refused}
 use Rattle.theory.specs.Machine.{AllBelow, runs}
@@ -72,7 +72,7 @@ module _ {q : Query} {t : Bytes} (f : Faithful q t) where
   take-refused-is state s h = rw (f .form, le-ltb s (setsIn t) h) (pick-same (ltb state (statesIn t)) (refuse handle-refused))
 
   -- P + T counts the interesting orders
-  interesting-size : producedIn t + testedIn t ≡ length (interesting q)
+  pub interesting-size : producedIn t + testedIn t ≡ length (interesting q)
   interesting-size = rw (length-append, f .produced-size, f .tested-size)
 
   -- taking sets leads from a state to a state
@@ -86,6 +86,15 @@ module _ {q : Query} {t : Bytes} (f : Faithful q t) where
   -- it is a state of the table
   at-below : (p : ℕ) (ss : List ℕ) → p < producedIn t → AllBelow (setsIn t) ss → at p ss < statesIn t
   at-below = inside-after stays
+
+  -- What an ask there tells: held exactly where the derivation gives the order.
+  pub ask-at-run : (p i : ℕ) (ss : List ℕ) → p < producedIn t → AllBelow (setsIn t) ss → i < producedIn t + testedIn t →
+      (held : Bool) × (ask t (at p ss) i ≡ grant (bit held)) × Says (After q (getD (q .produced) p []) ss (getD (interesting q) i [])) held
+  ask-at-run p i ss h b l = (
+    getD (heldOrders t (at p ss)) i false,
+    ask-granted-is t (f .form) (at p ss) i (at-below p ss h b) l ∙ ap grant (held-listed t (at p ss) i l),
+    f .tells p i ss (subst (λ n. p < n) (f .produced-size) h) (subst (λ n. AllBelow n ss) (f .sets-size) b) (subst (λ n. i < n) interesting-size l),
+  )
 
   -- the row theorem is handed in
   module _ (rows : (rs : List Rule) (p o : Order) → Derived rs p o → HoldsOfRows rs p o) where
@@ -105,9 +114,8 @@ module _ {q : Query} {t : Bytes} (f : Faithful q t) where
         (λ l m. rw (take-refused-is (at p ss) s l) (take-refused m (law p ss h b ls)))
     law p ss h b (asking i ∷ ls) =
         below-or-not i interesting-size
-        (λ l m. let e = f .tells p i ss (subst (λ n. p < n) (f .produced-size) h) (subst (λ n. AllBelow n ss) (f .sets-size) b) m in
-        rw (ask-granted-is t (f .form) (at p ss) i (at-below p ss h b) l, held-listed t (at p ss) i l)
-        (ask-granted m e (λ y. rows (rulesOf q ss) (getD (q .produced) p []) (getD (interesting q) i []) (says-true e y)) (law p ss h b ls)))
+        (λ l m. let a = ask-at-run p i ss h b l in
+        rw (a .1) (ask-granted m (a .2) (λ y. rows (rulesOf q ss) (getD (q .produced) p []) (getD (interesting q) i []) (says-true (a .2) y)) (law p ss h b ls)))
         (λ l m. rw (ask-refused-is t (f .form) (at p ss) i l) (ask-refused m (law p ss h b ls)))
 
   -- a granted entry brings any state, and any model, to such a state, so a list that begins with one gets the model's answers throughout

@@ -12,6 +12,7 @@ use lib.ListN.{length, List·getD-eq-default}
 use Rattle.theory.specs.Tests.{Says, holds, fails, member, upFrom, bitsOf, inMask}
 use Rattle.theory.specs.Orders.{Order, Query, interesting, rulesOf, After}
 use Rattle.theory.specs.Choices.{inForce, rulesUnder, setsOf}
+use Rattle.theory.specs.Machine.{AllBelow}
 use Rattle.theory.specs.Settled.{isHeld, Exact}
 use Rattle.theory.specs.Refusals.{passed, orderings-refused, space-refused, handle-refused}
 use Rattle.theory.specs.Query.{Bytes, readQuery, queryRefusal}
@@ -27,6 +28,10 @@ use Rattle.theory.proofs.ReadLaws.{query-formed}
 use Rattle.theory.proofs.ConstructionLaws.{query-exactly}
 use Rattle.theory.proofs.AnyOrder.{after-same}
 
+-- the sets of a choice are below S
+pub chosen-below : (n x : ℕ) → AllBelow n (setsOf n x)
+chosen-below n x s m = omega (arith, member-upFrom 0 n (member-those (inMask x) (upFrom 0 n) m .0))
+
 -- set s is in force under the choice with the number x exactly where it is among the choice's sets
 sets-say : (n x s : ℕ) → Says (List·Memᴰ s (setsOf n x)) (inForce (bitsOf n x) s)
 sets-say n x s = go (says-ltb s n)
@@ -37,7 +42,7 @@ sets-say n x s = go (says-ltb s n)
         (λ e m. true≢false (sym (member-those (inMask x) (upFrom 0 n) m .1) ∙ sym (bits-entry n x s h) ∙ e))
     go (fails f) =
         subst (Says (List·Memᴰ s (setsOf n x))) (sym (List·getD-eq-default (bitsOf n x) false (rw bits-length (omega arith))))
-        (fails (λ m. f (omega (arith, member-upFrom 0 n (member-those (inMask x) (upFrom 0 n) m .0)))))
+        (fails (λ m. f (chosen-below n x s m)))
 
 -- The rules of a choice are those of its sets.
 pub rules-chosen : (q : Query) (x : ℕ) → rulesUnder q (bitsOf (q .sets) x) ≡ rulesOf q (setsOf (q .sets) x)
