@@ -40,7 +40,7 @@ stateNumber q t = position sameTree t (statesOf q)
 
 -- No two states are alike.
 pub states-reduced : (q : Query) → Reduced (sizesOfQuery q) (answersOf q)
-states-reduced q = answering-reduced (sizesOfQuery q) (λ p c. heldUnder q (getD (q .produced) p []) c)
+states-reduced q = answering-reduced (sizesOfQuery q) _
 
 -- what is held after a run of sets
 pub held-run : (q : Query) (p : ℕ) (ss : List ℕ) → answersOf q .held (runs (answersOf q) (answersOf q .start p) ss) ≡ heldUnder q (getD (q .produced) p []) (withSets (noSets (q .sets)) ss)
@@ -65,16 +65,15 @@ module _ (q : Query) (formed : WellFormed q) where
   answers-tell p i ss h b l =
       let produced = getD (q .produced) p [] in
       let o = getD (interesting q) i [] in
-      let c = withSets (noSets (q .sets)) ss in
       subst (Says (After q produced ss o))
-      (sym (ap (λ held. getD held i false) (held-run q p ss) ∙ getD-map (λ r. isHeld (rulesUnder q c) produced r) (interesting q) i false [] l ∙ ap (λ rs. isHeld rs produced o) (rules-taken q ss b)))
+      (sym (ap (λ held. getD held i false) (held-run q p ss) ∙ getD-map _ (interesting q) i false [] l ∙ ap (λ rs. isHeld rs produced o) (rules-taken q ss b)))
       (query-exactly produced o ss (member-getD (q .produced) p [] h) (member-getD (interesting q) i [] l) .derived)
 
 -- each state says of every interesting order whether it is held
 pub held-wide : (q : Query) (t : AnswerTree) → State q t → length (answersOf q .held t) ≡ length (q .produced) + length (q .tested)
 held-wide q t r =
     ap (λ u. length (answersOf q .held u)) (sym (r .arrives)) ∙ ap length (held-run q (r .order) (r .sets))
-    ∙ length-map (interesting q) (λ o. isHeld (rulesUnder q (withSets (noSets (q .sets)) (r .sets))) (getD (q .produced) (r .order) []) o) ∙ length-append (q .produced) (q .tested)
+    ∙ length-map (interesting q) _ ∙ length-append (q .produced) (q .tested)
 
 -- its states by number
 pub states-known : (q : Query) → length (statesOf q) ≤ maxStates → Enumerated (answersOf q) (sizesOfQuery q) (statesOf q)
