@@ -29,7 +29,7 @@ use Rattle.theory.proofs.MachineLaws.{numbered-exactly, numbered-distin
 use Rattle.theory.proofs.JointLaws.{Covers, same-sym, same-trans, covers-reduced}
 use Rattle.theory.proofs.MachineTable.{Limited, Enumerated, table-sized, table-numbered, numbers-cover, numbers-answer}
 use Rattle.theory.proofs.SmallestTable.{smallest, one-table}
-use Rattle.theory.proofs.Faithfulness.{numbers-tell, faithful-table, table-passes}
+use Rattle.theory.proofs.Faithfulness.{Wide, numbers-tell, faithful-table, table-passes}
 
 -- The states by number, and the number of a state.
 abbrev pub statesOf : (q : Query) → List AnswerTree
@@ -69,11 +69,13 @@ module _ (q : Query) (formed : WellFormed q) where
       (sym (ap (λ held. getD held i false) (held-run q p ss) ∙ getD-map _ (interesting q) i false [] l ∙ ap (λ rs. isHeld rs produced o) (rules-taken q ss b)))
       (query-exactly produced o ss (member-getD (q .produced) p [] h) (member-getD (interesting q) i [] l) .derived)
 
--- each state says of every interesting order whether it is held
+-- after every run, and so in each state, each interesting order is said to be held or not
+pub answers-wide : (q : Query) → Wide q (answersOf q)
+answers-wide q p ss h b = ap length (held-run q p ss) ∙ length-map (interesting q) _
+
 pub held-wide : (q : Query) (t : AnswerTree) → State q t → length (answersOf q .held t) ≡ length (q .produced) + length (q .tested)
 held-wide q t r =
-    ap (λ u. length (answersOf q .held u)) (sym (r .arrives)) ∙ ap length (held-run q (r .order) (r .sets))
-    ∙ length-map (interesting q) _ ∙ length-append (q .produced) (q .tested)
+    ap (λ u. length (answersOf q .held u)) (sym (r .arrives)) ∙ answers-wide q (r .order) (r .sets) (r .produced) (r .below) ∙ length-append (q .produced) (q .tested)
 
 -- its states by number
 pub states-known : (q : Query) → length (statesOf q) ≤ maxStates → Enumerated (answersOf q) (sizesOfQuery q) (statesOf q)
@@ -138,6 +140,10 @@ module _ {q : Query} {t : Table} (limits : Limited (sizesOfQuery q)) (d : Made q
   answers =
       by-rows (λ k. SameAnswers (sizesOfQuery q) (answersOf q) (numbersOf k))
       (same-sym (sizesOfQuery q) (numbersOf (tableOf (answersOf q) (sizesOfQuery q) (statesOf q))) (answersOf q) (numbers-answer (answersOf q) (sizesOfQuery q) (statesOf q) limits known))
+
+  -- after every run its numbers say of each interesting order whether it is held
+  pub made-wide : Wide q (numbersOf t)
+  made-wide p ss h b = ap length (sym (answers p ss h b)) ∙ answers-wide q p ss h b
 
   pub made-count : t .stateCount ≡ length (statesOf q)
   unfolding tableOf

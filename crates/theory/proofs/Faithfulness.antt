@@ -8,17 +8,18 @@ use mathlib.Core.Bool.{false}
 use mathlib.Core.List.{List, []}
 use lib.Dec.{ltb}
 use lib.ListN.{length, getD}
-use lib.Seq.{getD-take, getD-drop}
+use lib.Seq.{getD-take, getD-drop, ext-getD}
 use borrow.Author.Tests.{ltb-true, ltb-false}
 use Rattle.theory.specs.Tests.{Says}
 use Rattle.theory.specs.Limits.{maxStates, tableSizes}
 use Rattle.theory.specs.Orders.{Query, interesting, After}
 use Rattle.theory.specs.Refusals.{passed, firstRefusal, firstOf}
-use Rattle.theory.specs.Machine.{Machine, SameAnswers}
+use Rattle.theory.specs.Machine.{Machine, AllBelow, runs, SameAnswers}
 use Rattle.theory.specs.Query.{Bytes, byteAt, outside}
 use Rattle.theory.specs.Construction.{sizesOfQuery}
 use Rattle.theory.specs.Table.{Table, Sized, Numbered, tableOf, numbersOf, machineIn, writeTable, statesIn, producedIn, testedIn, setsIn, sizesIn, startIn, successorsBase, successorIn, stateRefusal, formRefusal, startsRefusal, successorsRefusal, heldRefusal, tableRefusal}
 use Rattle.theory.specs.Lookups.{Tells, Faithful}
+use Rattle.theory.proofs.Reflect.{says-one}
 use Rattle.theory.proofs.RefusalLaws.{or-passed, first-passed, refused-then, refused-else, neither}
 use Rattle.theory.proofs.MachineLaws.{Inside}
 use Rattle.theory.proofs.JointLaws.{same-sym}
@@ -84,6 +85,16 @@ passed-faithful q t e produced tested sets tells =
       successor-below = c .inside .next-below;
       tells = tells;
     }
+
+-- After every run a machine says of each interesting order whether it is held.
+abbrev pub Wide : {X : Type 0} → Query → Machine X → Type 0
+Wide q m = (p : ℕ) (ss : List ℕ) → p < length (q .produced) → AllBelow (q .sets) ss → length (m .held (runs m (m .start p) ss)) ≡ length (interesting q)
+
+-- Two such machines that tell the derivation answer alike.
+pub tells-same : {X Y : Type 0} (q : Query) (m : Machine X) (k : Machine Y) → Wide q m → Wide q k → Tells q m → Tells q k → SameAnswers (sizesOfQuery q) m k
+tells-same q m k wide wide′ tells tells′ p ss h b =
+    let w = wide p ss h b in
+    ext-getD false _ _ (w ∙ sym (wide′ p ss h b)) (λ i l. let j = subst (λ n. i < n) w l in says-one (tells p i ss h b j) (tells′ p i ss h b j))
 
 -- A machine that answers as another tells the derivation where that one does.
 pub same-tells : {X Y : Type 0} (q : Query) (m : Machine X) (k : Machine Y) → SameAnswers (sizesOfQuery q) m k → Tells q m → Tells q k

@@ -5,9 +5,7 @@ use native.Mathlib.Omega.{arith}
 use mathlib.Core.Path.{_≡_, sym, _∙_, ap, subst}
 use mathlib.Core.Logic.{_↔_}
 use mathlib.Core.List.{List}
-use mathlib.Core.Bool.{false}
-use lib.ListN.{length, getD, length-append}
-use lib.Seq.{ext-getD}
+use lib.ListN.{length, getD}
 use Rattle.theory.specs.Tests.{Decides}
 use Rattle.theory.specs.Limits.{maxStates}
 use Rattle.theory.specs.Orders.{Query, WellFormed}
@@ -19,17 +17,16 @@ use Rattle.theory.specs.Refusals.{passed}
 use Rattle.theory.specs.Query.{Bytes, readQuery}
 use Rattle.theory.specs.Table.{tableOf, numbersOf, machineIn, statesIn, writeTable, tableRefusal}
 use Rattle.theory.specs.Build.{too-many, construct, Constructs, many-states, built, outcome}
-use Rattle.theory.specs.Lookups.{Faithful}
+use Rattle.theory.specs.Lookups.{Tells, Faithful}
 use Rattle.theory.specs.Verification.{verifyRefusal}
-use Rattle.theory.proofs.MachineLaws.{Inside, reached-start, reached-runs}
-use Rattle.theory.proofs.Reflect.{says-one}
+use Rattle.theory.proofs.MachineLaws.{Inside}
 use Rattle.theory.proofs.PositionLaws.{position-bound, position-reads}
 use Rattle.theory.proofs.JointLaws.{Covers, covers-after, covers-reduced}
 use Rattle.theory.proofs.MachineTable.{Limited, bytes-cover}
 use Rattle.theory.proofs.ReadLaws.{query-formed}
-use Rattle.theory.proofs.Faithfulness.{table-checked}
+use Rattle.theory.proofs.Faithfulness.{table-checked, Wide, tells-same}
 use Rattle.theory.proofs.AnswerLaws.{decides-tree}
-use Rattle.theory.proofs.ConstructionLaws.{statesOf, stateNumber, states-reduced, held-wide, answers-tell, states-known, made-sized, made-numbered, made-sizes, made-cover, made-reduced, made-count, made-smallest, made-only}
+use Rattle.theory.proofs.ConstructionLaws.{statesOf, stateNumber, states-reduced, answers-tell, answers-wide, states-known, made-sized, made-numbered, made-tells, made-sizes, made-cover, made-reduced, made-wide, made-count, made-smallest, made-only}
 use Rattle.theory.proofs.SmallestTable.{smallest}
 use Rattle.theory.proofs.BuildLaws.{construct-means}
 use Rattle.theory.proofs.StatePairs.{stateOf, has-state, share-same, same-share}
@@ -96,6 +93,12 @@ module _ {query t : Bytes} (b : Built query t) where
       SameAnswers (sizesOfQuery q) (numbersOf (b .contents)) k → t ≡ writeTable (tableOf k (sizesOfQuery q) (numberedWithin k maxStates (sizesOfQuery q)))
   built-only k decides reduced few same = b .bytes-are ∙ ap writeTable (made-only limits (b .made) k decides reduced few same)
 
+  -- In the derivation's words there is one smallest table: that of every reduced machine that tells the query's derivation is the one that is built.
+  pub only-smallest : {X : Type 0} (k : Machine X) → Decides (k .same) → Reduced (sizesOfQuery q) k → length (numberedWithin k maxStates (sizesOfQuery q)) ≤ maxStates →
+      Wide q k → Tells q k → t ≡ writeTable (tableOf k (sizesOfQuery q) (numberedWithin k maxStates (sizesOfQuery q)))
+  only-smallest k decides reduced few wide tells =
+      built-only k decides reduced few (tells-same q (numbersOf (b .contents)) k (made-wide limits (b .made)) wide (made-tells limits (b .made) formed) tells)
+
 -- Where there are too many states, no table that passes the table check has the query's answers.
 pub eight-none : (q : Query) → WellFormed q → construct q ≡ too-many → (t : Bytes) → tableRefusal t ≡ passed → ¬ Faithful q t
 eight-none q formed e t passes f =
@@ -104,10 +107,7 @@ eight-none q formed e t passes f =
     let m = many (subst (Constructs q) e (construct-means q)) in
     let least =
     smallest (sizesOfQuery q) (answersOf q) (states-reduced q) (machineIn t) (statesIn t) (subst (λ z. Inside (machineIn t) z (statesIn t)) (sizes-are q t sizes) (c .inside))
-    (λ p ss h b.
-    let w = held-wide q _ (reached-runs (answersOf q) (sizesOfQuery q) ss b (answersOf q .start p) (reached-start (answersOf q) (sizesOfQuery q) p h)) ∙ sym (length-append (q .produced) (q .tested)) in
-    ext-getD false _ _ (w ∙ sym (their-width q t sizes (runs (machineIn t) (machineIn t .start p) ss)))
-    (λ i l. let k = subst (λ n. i < n) w l in says-one (answers-tell q formed p i ss h b k) (f .tells p i ss h b k)))
+    (tells-same q (answersOf q) (machineIn t) (answers-wide q) (λ p ss h b. their-width q t sizes _) (answers-tell q formed) (f .tells))
     (m .things) (m .different) (m .each) in
     let h = m .many in
     omega (arith, least, c .few)

@@ -129,10 +129,6 @@ module _ (t : Table) (sized : Sized t) (closed : Numbered t) where
             closed .successors-below row among (getD row s 0) (member-getD row s 0 (subst (λ n. s < n) (sym (sized .row-width row among)) k));
       }
 
-  -- each state says of every interesting order whether it is held
-  pub numbers-wide : (state : ℕ) → state < t .stateCount → length (numbersOf t .held state) ≡ t .producedCount + t .testedCount
-  numbers-wide state h = sized .held-width (getD (t .held) state []) (member-getD (t .held) state [] (subst (λ n. state < n) (sym (sized .held-count)) h))
-
   -- Each number goes to itself in the bytes: they answer as the numbers do, and are reduced where these are.
   pub bytes-cover : Covers (countsOf t) (numbersOf t) (machineIn (writeTable t)) (λ x. x)
   bytes-cover =

@@ -6,11 +6,10 @@ use mathlib.Core.Logic.{_≢_}
 use mathlib.Core.Bool.{Bool, true, false}
 use mathlib.Core.List.{List, [], _∷_}
 use lib.ListN.{length, getD, length-append}
-use lib.Seq.{ext-getD}
 use Rattle.theory.specs.Tests.{pick, Says, holds, fails}
 use Rattle.theory.specs.Limits.{maxJointStates, scratchLength}
 use Rattle.theory.specs.Orders.{Query, interesting, WellFormed}
-use Rattle.theory.specs.Machine.{Sizes, AllBelow, runs, SameAnswers, agree}
+use Rattle.theory.specs.Machine.{Sizes, SameAnswers, agree}
 use Rattle.theory.specs.Construction.{sizesOfQuery}
 use Rattle.theory.specs.Refusals.{passed, space-refused, mismatch-refused, answer-refused, firstRefusal}
 use Rattle.theory.specs.Query.{Bytes, readQuery, queryRefusal}
@@ -21,12 +20,12 @@ use Rattle.theory.specs.Verification.{SameSizes, sameSizes, mismatchRefu
 use Rattle.theory.proofs.Reflect.{says-one, says-true, says-as, says-and, says-eqb, says-ltb, decides-number, decides-bool}
 use Rattle.theory.proofs.ChoiceNumbers.{bits-length}
 use Rattle.theory.proofs.ReadLaws.{query-formed}
-use Rattle.theory.proofs.MachineLaws.{Inside, inside-after}
+use Rattle.theory.proofs.MachineLaws.{Inside}
 use Rattle.theory.proofs.JointLaws.{agree-says, agree-parts, joint-few}
-use Rattle.theory.proofs.MachineTable.{Limited, numbers-inside, numbers-wide}
-use Rattle.theory.proofs.Faithfulness.{table-checked, passed-faithful, same-tells}
+use Rattle.theory.proofs.MachineTable.{Limited, numbers-inside}
+use Rattle.theory.proofs.Faithfulness.{table-checked, passed-faithful, tells-same, same-tells}
 use Rattle.theory.proofs.BuildLaws.{construct-means}
-use Rattle.theory.proofs.ConstructionLaws.{Made, made, made-sized, made-numbered, made-tells, made-sizes}
+use Rattle.theory.proofs.ConstructionLaws.{Made, made, made-sized, made-numbered, made-tells, made-sizes, made-wide}
 use Rattle.theory.proofs.DemandThree.{query-limited}
 
 -- two lists of one length that are not the same differ at some entry
@@ -64,22 +63,13 @@ module _ {q : Query} {ours : Table} (formed : WellFormed q) (limits : Limited (s
   their-states : Inside (machineIn t) (sizesOfQuery q) (statesIn t)
   their-states = subst (λ z. Inside (machineIn t) z (statesIn t)) (sizes-are q t sizes) (table-checked t passes .inside)
 
-  -- and so does the query's own
-  our-width : (p : ℕ) (ss : List ℕ) → p < length (q .produced) → AllBelow (q .sets) ss → length (numbersOf ours .held (runs (numbersOf ours) (numbersOf ours .start p) ss)) ≡ length (interesting q)
-  our-width p ss h b =
-      numbers-wide ours (made-sized limits d) (made-numbered limits d) (runs (numbersOf ours) (numbersOf ours .start p) ss) (inside-after our-states p ss h b)
-      ∙ ap (λ (z : Sizes). z .produced + z .tested) (made-sizes limits d) ∙ sym (length-append (q .produced) (q .tested))
-
   -- The table is faithful exactly when it answers as the query's own does.
   pub same-faithful : SameAnswers (sizesOfQuery q) (numbersOf ours) (machineIn t) → Faithful q t
   same-faithful same =
       passed-faithful q t passes (sizes .produced) (sizes .tested) (sizes .sets) (same-tells q (numbersOf ours) (machineIn t) same (made-tells limits d formed))
 
   pub faithful-same : Faithful q t → SameAnswers (sizesOfQuery q) (numbersOf ours) (machineIn t)
-  faithful-same f p ss h b =
-      let e = our-width p ss h b in
-      ext-getD false _ _ (e ∙ sym (their-width q t sizes _))
-      (λ i l. says-one (made-tells limits d formed p i ss h b (subst (λ w. i < w) e l)) (f .tells p i ss h b (subst (λ w. i < w) e l)))
+  faithful-same f = tells-same q (numbersOf ours) (machineIn t) (made-wide limits d) (λ p ss h b. their-width q t sizes _) (made-tells limits d formed) (f .tells)
 
   -- the test of the joint states says so, ..
   pub answers-say : Says (SameAnswers (sizesOfQuery q) (numbersOf ours) (machineIn t)) (agree maxJointStates (sizesOfQuery q) (numbersOf ours) (machineIn t))
@@ -92,7 +82,7 @@ module _ {q : Query} {ours : Table} (formed : WellFormed q) (limits : Limited (s
   answers-wrong e =
       let r = agree-parts (numbersOf ours) (machineIn t) (sizesOfQuery q) decides-number decides-number maxJointStates
       (joint-few our-states their-states (made-sized limits d .few-states) (table-checked t passes .few) decides-number decides-number) e in
-      let w = our-width (r .order) (r .sets) (r .produced) (r .below) in
+      let w = made-wide limits d (r .order) (r .sets) (r .produced) (r .below) in
       let i = differ-at _ _ (w ∙ sym (their-width q t sizes _)) (r .differ) in
       let l = subst (λ k. i .0 < k) w (i .1) in
       record {
