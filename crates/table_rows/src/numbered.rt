@@ -12,7 +12,7 @@ use numbers::limits::MAX_STATES;
 use numbers::scratch::HELD_PART;
 
 // A row's number, and how many rows are numbered.
-pub struct Numbered {
+pub struct RowNumber {
     pub number: usize,
     pub count: usize,
 }
@@ -34,16 +34,16 @@ fn number_whole(
     count: usize,
     p: usize,
     k: usize,
-) -> Numbered
+) -> RowNumber
     requires { ⌜ Pairs sets (now work) count × Wholes produced (produced + tested) sets (now work) count × (produced ≤ maxProduced) × (tested ≤ maxTested) × (sets ≤ maxSets) × (p < produced) × (k < 2 ^ sets) × Whole sets (now work) p k × (workLength ≤ length (now work)) ⌝ }
     ensures { λ r. ⌜ Numbering produced (produced + tested) sets (now (work .entry)) (now (work .exit)) (stateOf (produced + tested) sets (take heldPart (now (work .entry))) p k) count (r .number) (r .count) ⌝ }
 {
     let number = find::find_row(work, produced, tested, sets, count, p, k);
     if number < count {
-        return Numbered { number, count };
+        return RowNumber { number, count };
     }
     if count == MAX_STATES {
-        return Numbered {
+        return RowNumber {
             number,
             count: MAX_STATES + 1,
         };
@@ -51,7 +51,7 @@ fn number_whole(
     let at = HELD_PART + count * HELD_WIDTH;
     work[at] = p as u8;
     work[at + 1] = k as u8;
-    Numbered {
+    RowNumber {
         number: count,
         count: count + 1,
     }
@@ -66,7 +66,7 @@ pub fn number_row(
     count: usize,
     p: usize,
     m: usize,
-) -> Numbered
+) -> RowNumber
     requires { ⌜ Pairs sets (now work) count × Wholes produced (produced + tested) sets (now work) count × (produced ≤ maxProduced) × (tested ≤ maxTested) × (sets ≤ maxSets) × (p < produced) × (m < 2 ^ sets) × (workLength ≤ length (now work)) ⌝ }
     ensures { λ r. ⌜ Numbering produced (produced + tested) sets (now (work .entry)) (now (work .exit)) (stateOf (produced + tested) sets (take heldPart (now (work .entry))) p m) count (r .number) (r .count) ⌝ }
 {
