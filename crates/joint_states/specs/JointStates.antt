@@ -1,4 +1,5 @@
--- Joint states of two tables, held as a set of numbers, and what is known of the set while it grows to all joint states that are reached together.
+-- A *joint state* is a state of one table with a state of another. Joint states as numbers, sets of them, and what is known of a set while it grows to all that are reached: those to which
+-- some run leads in both tables.
 use Prim.Native.Nat.{ℕ, _+_, _*_, _/_, _%_, _≤_, _<_}
 use mathlib.Core.Path.{_≡_}
 use mathlib.Core.Bool.{true}
@@ -46,7 +47,7 @@ nextJointStates a b i = map (nextJointState a b i) (upFrom 0 (setsIn a))
 abbrev pub Together : Bytes → Bytes → ℕ → Type 0
 Together a b i = Reached (both (machineIn a) (machineIn b)) (sizesIn a) (ourState i, theirState i)
 
--- A set of joint states, each of which is reached together.
+-- A set of joint states, each of which is reached.
 pub record JointWalking (a b m : Bytes) : Type 0 where
   pub comparable : Comparable a b
   pub long : length m ≡ jointStatesLength
@@ -82,7 +83,7 @@ pub record JointClosed (a b m m′ : Bytes) : Type 0 where
   pub keeps : (j : ℕ) → inBits m j ≡ true → inBits m′ j ≡ true
   pub closed : (i : ℕ) → inBits m′ i ≡ true → (j : ℕ) → List·Memᴰ j (nextJointStates a b i) → inBits m′ j ≡ true
 
--- The set has exactly the joint states that are reached together.
+-- The set has exactly the joint states that are reached.
 pub record AllTogether (a b m : Bytes) : Type 0 where
   pub walking : JointWalking a b m
   pub complete : (x : ℕ × ℕ) → Reached (both (machineIn a) (machineIn b)) (sizesIn a) x → inBits m (jointNumber (x .0) (x .1)) ≡ true
