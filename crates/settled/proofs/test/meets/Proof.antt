@@ -11,6 +11,10 @@ use Rattle.settled.proofs.MaskLaws.{narrow-at}
 use Rattle.settled.proofs.test.meets.Statement.{statement}
 use Rattle.settled.proofs.test.meets.Tie as tie
 
+-- the function's entry, from where the column is read
+abbrev entry : tie.After-column → tie.Start
+entry c = c .before .before .before .before .before
+
 length-requires : tie.Need-length-requires
 length-requires c κs = search needs
 
@@ -24,10 +28,10 @@ column-requires : tie.Need-column-requires
 column-requires c κs = search needs
 
 has-requires : tie.Need-has-requires
-has-requires c κs = let s = c .before .before .before .before .before in rw (c .column .ensures) (narrow-at (orderOf (s .args .p)) (s .args .at) (s .pre .2) (omega arith))
+has-requires c κs = let s = entry c in rw (c .column .ensures) (narrow-at (orderOf (s .args .p)) (s .args .at) (s .pre .2) (omega arith))
 
 returns : tie.Need-returns
-returns c = let a = c .before .before .before .before .before .before .args in
+returns c = let a = entry (c .before) .args in
     pick-yes _ (lt-ltb (a .at) (length (orderOf (a .p))) (omega arith)) (c .has .ensures ∙ ap (inMask (getD (a .classes .now) (a .c) 0)) (c .before .column .ensures))
 
 returns-2 : tie.Need-returns-2

@@ -4,6 +4,13 @@ use Rattle.settled.proofs.TestLaws.{closes-none}
 use Rattle.settled.proofs.test.prepare.Statement.{statement}
 use Rattle.settled.proofs.test.prepare.Tie as tie
 
+-- places of the code, each reached from a later one: where the classes are written, and where the arrows are
+abbrev classed : tie.After-rules → tie.After-classes
+classed c = c .before .before .before .before .before .before .before .before .before
+
+abbrev ruled : tie.After-close → tie.After-rules
+ruled c = c .before .before .before .before .before .before .before
+
 classes-requires : tie.Need-classes-requires
 classes-requires c κs = search needs
 
@@ -24,8 +31,8 @@ same-length-3 c = search needs
 
 returns : tie.Need-returns
 returns c =
-    let q = c .before .before .before .before .before .before .before .rules in
-    let k = c .before .before .before .before .before .before .before .before .before .before .before .before .before .before .before .before .classes in
+    let q = ruled c .rules in
+    let k = classed (ruled c) .classes in
     let rules = q .ensures .0 in (
       record { rules = rules; settled = closes-none (q .last .1 .1 .0) (q .last .1 .1 .1 .0) (q .result) (c .close .result) (c .close .ensures) _ rules; alike = k .ensures .0 },
       q .ensures .1,

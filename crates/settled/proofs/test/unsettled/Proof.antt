@@ -20,6 +20,13 @@ Inv-loop o from mask n i₀ i = (from ≤ i) × (i ≤ length (orderOf o)) × ((
 abbrev μ-loop : tie.MeasureT-loop
 μ-loop o from mask n i₀ i = n - i
 
+-- places of the code, each reached from a later one: the function's entry, and a turn's begin
+abbrev entry : tie.At-loop Inv-loop μ-loop → tie.Start Inv-loop μ-loop
+entry c = c .before .before
+
+abbrev turn : tie.After-column Inv-loop μ-loop → tie.At-loop Inv-loop μ-loop
+turn c = c .before .before
+
 length-requires : tie.Need-length-requires Inv-loop μ-loop
 length-requires c κs = search needs
 
@@ -30,10 +37,10 @@ column-requires : tie.Need-column-requires Inv-loop μ-loop
 column-requires c κs = search needs
 
 has-requires : tie.Need-has-requires Inv-loop μ-loop
-has-requires c κs = let s = c .before .before .before .before in rw (c .column .ensures) (narrow-at (orderOf (s .args .o)) (c .before .before .loop .i) (s .pre .0) (omega arith))
+has-requires c κs = let s = entry (turn c) in rw (c .column .ensures) (narrow-at (orderOf (s .args .o)) (turn c .loop .i) (s .pre .0) (omega arith))
 
 returns : tie.Need-returns Inv-loop μ-loop
-returns c = let a = c .before .before .before .before .before .before .args in let at = c .before .before .before .before .loop in
+returns c = let t = turn (c .before .before) in let a = entry t .args in let at = t .loop in
     record {
       forth = at .inv .0;
       within = at .inv .1;
@@ -48,7 +55,7 @@ loop-less : tie.Need-loop-less Inv-loop μ-loop
 loop-less c = search needs
 
 loop-again : tie.Need-loop-again Inv-loop μ-loop
-loop-again c = let a = c .before .before .before .before .before .before .args in let at = c .before .before .before .before .loop in (
+loop-again c = let t = turn (c .before .before) in let a = entry t .args in let at = t .loop in (
   omega arith,
   omega arith,
   below-more (λ k. a .from ≤ k → inMask (a .mask) (getD (orderOf (a .o)) k 0) ≡ true) (at .i) (at .inv .2) (λ l. ap (inMask (a .mask)) (sym (c .before .before .column .ensures)) ∙ sym (c .before .has .ensures) ∙ not-false (c .before .has .result) (c .if1 .left)),
