@@ -12,6 +12,10 @@ use Rattle.counterexample.proofs.WriteLaws.{valueOf}
 use Rattle.counterexample.proofs.rows.write.Statement.{statement}
 use Rattle.counterexample.proofs.rows.write.Tie as tie
 
+-- where the first row is written, reached from where both are
+abbrev first : tie.After-write-row2 → tie.After-write-row
+first c = c .before .before .before .before
+
 write-row-requires : tie.Need-write-row-requires
 write-row-requires c κs = search needs
 
@@ -22,9 +26,13 @@ same-length : tie.Need-same-length
 same-length c = search needs
 
 returns : tie.Need-returns
-returns c = let a = c .before .before .before .before .before .before .before .before .before .args in
-    c .before .before .write-row2 .ensures ∙ ap (placed (a .n) (rowBy false (a .settled) (a .class) (a .n))) (c .before .before .before .before .before .before .write-row .ensures)
-    ∙ placed-more 0 (a .n) (rowBy true (a .settled) (a .class) (a .n)) (rowBy false (a .settled) (a .class) (a .n)) (now (a .rows)) (omega (arith, entry-count (valueOf true (a .settled) (a .class)) 0 (a .n))) (omega arith)
+returns c =
+    let w = c .before .before in
+    let f = first w in
+    let a = f .before .before .before .args in
+    w .write-row2 .ensures
+    ∙ ap (placed _ (rowBy false (a .settled) (a .class) (a .n))) (f .write-row .ensures)
+    ∙ placed-more 0 _ (rowBy true (a .settled) (a .class) (a .n)) (rowBy false (a .settled) (a .class) (a .n)) (now (a .rows)) (omega (arith, entry-count (valueOf true (a .settled) (a .class)) 0 (a .n))) (omega arith)
 
 pub write-spec : {M : Type 1} → statement M
 write-spec = tie.close (tie.spec write-row-requires write-row-requires-2 same-length returns)
