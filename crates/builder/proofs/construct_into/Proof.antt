@@ -1,9 +1,27 @@
 -- `builder::construct_into` meets its contract: constructing is refused, or its table is delivered.
+use mathlib.Core.Path.{_≡_}
 use denote.Ref.{now}
+use Rattle.theory.specs.Query.{readQuery}
+use Rattle.theory.specs.Table.{Table}
+use Rattle.theory.specs.Build.{table, construct}
+use Rattle.builder.specs.Built.{Holding}
 use Rattle.builder.proofs.DeliverLaws.{constructing-refused, holding, done-constructed}
 use borrow.Author.Needs.{needs}
 use Rattle.builder.proofs.construct_into.Statement.{statement}
 use Rattle.builder.proofs.construct_into.Tie as tie
+
+-- places of the code, each reached from a later one: the function's entry, and where constructing has ended
+abbrev entry : tie.After-construct → tie.Start
+entry c = c .before .before .before .before .before
+
+abbrev made : tie.After-sets → tie.After-construct
+made c = c .before .before .before .before .before .before
+
+-- where the sizes are read, the scratch has the table that was constructed
+held : (c : tie.After-sets) → let m = made c in
+    (t : Table) × (construct (readQuery (now (entry m .args .query))) ≡ table t) × Holding t (m .construct .last .1 .0) (m .construct .result .rows) (c .before .before .produced .result) (c .before .tested .result) (c .sets .result)
+held c = let m = made c in let s = entry m in
+    holding (now (s .args .query)) (s .pre .0) (m .construct .ensures .0) (c .before .before .before .if1 .left) (c .before .before .produced .ensures) (c .before .tested .ensures) (c .sets .ensures)
 
 construct-requires : tie.Need-construct-requires
 construct-requires c κs = search needs
@@ -15,8 +33,8 @@ same-length : tie.Need-same-length
 same-length c = search needs
 
 returns : tie.Need-returns
-returns c = let k = c .before .before .before .before in let s = k .before .before .before .before .before in
-    (constructing-refused (now (s .args .query)) (k .construct .ensures .0) (c .before .if1 .taken) (c .refused .ensures), k .construct .ensures .1)
+returns c = let m = c .before .before .before .before in
+    (constructing-refused (now (entry m .args .query)) (m .construct .ensures .0) (c .before .if1 .taken) (c .refused .ensures), m .construct .ensures .1)
 
 produced-requires : tie.Need-produced-requires
 produced-requires c κs = search needs
@@ -28,12 +46,7 @@ sets-requires : tie.Need-sets-requires
 sets-requires c κs = search needs
 
 deliver-requires : tie.Need-deliver-requires
-deliver-requires c κs =
-    let sizes = c .before .before in
-    let made = sizes .before .before .before .before .before .before in
-    let s = made .before .before .before .before .before in
-    let h = holding (now (s .args .query)) (s .pre .0) (made .construct .ensures .0) (sizes .before .before .before .if1 .left) (sizes .before .before .produced .ensures) (sizes .before .tested .ensures) (sizes .sets .ensures) in
-    (h .0, h .2)
+deliver-requires c κs = let h = held (c .before .before) in (h .0, h .2)
 
 same-length-2 : tie.Need-same-length-2
 same-length-2 c = search needs
@@ -42,13 +55,8 @@ same-length-3 : tie.Need-same-length-3
 same-length-3 c = search needs
 
 returns-2 : tie.Need-returns-2
-returns-2 c =
-    let put = c .before .before in
-    let sizes = put .before .before .before in
-    let made = sizes .before .before .before .before .before .before in
-    let s = made .before .before .before .before .before in
-    let h = holding (now (s .args .query)) (s .pre .0) (made .construct .ensures .0) (sizes .before .before .before .if1 .left) (sizes .before .before .produced .ensures) (sizes .before .tested .ensures) (sizes .sets .ensures) in
-    (done-constructed (h .1) (put .deliver .ensures (h .0) (h .2)), made .construct .ensures .1)
+returns-2 c = let d = c .before .before in let s = d .before .before .before in let h = held s in
+    (done-constructed (h .1) (d .deliver .ensures (h .0) (h .2)), made s .construct .ensures .1)
 
 pub construct-into-spec : {M : Type 1} → statement M
 construct-into-spec =
