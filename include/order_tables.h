@@ -1,8 +1,9 @@
 /* Order tables: check a query and read it, build its table, check a table, put a supplier's table on trial, look it up, list it, and show two rows
  * where an order is not held.
  *
- * Every function but order_query_order and order_query_dependency returns a refusal's number times 65,536 plus a value. A refusal of 0 is none,
- * and on refusal the value is 0. Split such a result with order_table_refusal and order_table_value.
+ * Every function returns a refusal's number and a value in one number. A refusal of 0 is none, and on refusal the value is 0. order_query_order and
+ * order_query_dependency return 64 bits, the refusal in the highest 16: split these with order_query_item_refusal and order_query_item_value. All others
+ * return 32 bits, the refusal in the highest 16: split those with order_table_refusal and order_table_value.
  *
  * Buffers are lent for the call: a pointer to so many bytes. Buffers of one call must not overlap. A buffer of length 0 may be any pointer but
  * a null one. Nothing is allocated, and nothing is kept between calls.
@@ -35,7 +36,7 @@ enum order_table_refusals {
     ORDER_TABLE_ORDERINGS = 7, /* never given any more: its number and word stay in the list */
     ORDER_TABLE_STATES = 8,    /* the smallest table has more than 128 rows */
     ORDER_TABLE_SPACE = 9,     /* scratch below ORDER_TABLE_SCRATCH bytes, or output, text or rows too short */
-    ORDER_TABLE_HANDLE = 10,   /* state, produced order, set or interesting order not in the table or the query */
+    ORDER_TABLE_HANDLE = 10,   /* state, produced order, set, interesting order or dependency not in the table or the query */
     ORDER_TABLE_ROW = 11,      /* a start or successor that is no state of the table, or a held bit past the interesting orders */
     ORDER_TABLE_MISMATCH = 12, /* a table with another number of produced orders, tested orders or sets than the query */
     ORDER_TABLE_ANSWER = 13    /* a table whose answer, from some start and through some run of sets, is wrong for the query */
@@ -56,17 +57,22 @@ static inline uint32_t order_table_refusal(uint32_t result) { return result >> 1
 /* The value of a result; 0 when it is refused. */
 static inline uint32_t order_table_value(uint32_t result) { return result & 0xffff; }
 
+/* The refusal's number of an order or a dependency that was read; 0 when it is granted. */
+static inline uint32_t order_query_item_refusal(uint64_t result) { return (uint32_t)(result >> 48); }
+
+/* Its value, 48 bits; 0 when it is refused. */
+static inline uint64_t order_query_item_value(uint64_t result) { return result & 0xffffffffffff; }
+
 /* The checks 1 to 6 of a query. Value: 0. Refusals: 1 to 6. A query that passes them may still be refused with 8 when it is built. */
 uint32_t order_query_check(const uint8_t *query, size_t query_length);
 
-/* Interesting order i of a query that passes order_query_check, where i is below P + T: its length in the lowest byte, then its columns, a byte
- * each, the first one lowest, and 0 above them. Of other queries, or past the last order, it is a number without meaning, fixed by the query's
- * bytes and i. */
+/* Interesting order i of a query. Value: its length in the lowest byte, then its columns, a byte each, the first one lowest, and 0 above them.
+ * Refusals, in this order: 1 to 6; 10 when i is not below P + T. */
 uint64_t order_query_order(const uint8_t *query, size_t query_length, uint8_t i);
 
-/* Dependency i of a query that passes order_query_check, where i is below D: its set in the lowest byte, its kind in the next one, then its
- * columns, a byte each, the first one lowest, and 0 above them. Kind 0 to 3 is a fix with that many left columns: those, then the right one. Kind 4
- * is an equal: two columns. Of other queries, or past the last dependency, it is a number without meaning, fixed by the query's bytes and i. */
+/* Dependency i of a query. Value: its set in the lowest byte, its kind in the next one, then its columns, a byte each, the first one lowest, and 0 above
+ * them. Kind 0 to 3 is a fix with that many left columns: those, then the right one. Kind 4 is an equal: two columns. Refusals, in this order: 1 to 6;
+ * 10 when i is not below D. */
 uint64_t order_query_dependency(const uint8_t *query, size_t query_length, uint8_t i);
 
 /* Shows why an interesting order is not held of rows in a produced order under a choice of sets in force. Value: 1 where two rows are written, 0 where

@@ -11,6 +11,15 @@ pub fn answer(answer: Result<u32, u8>) -> u32 {
     }
 }
 
+/// An item that is read from a query: a refusal's number times 2 to the 48 plus the
+/// value, which is 0 on refusal.
+pub fn item(answer: Result<u64, u8>) -> u64 {
+    match answer {
+        Ok(value) => value,
+        Err(refusal) => u64::from(refusal) << 48,
+    }
+}
+
 /// Whether two rows are written, or the refusal, where a number says either.
 pub fn two_rows(code: u32) -> Option<Result<bool, u8>> {
     let said = match code {

@@ -14,6 +14,11 @@ impl Tally {
         self.by_refusal[(code >> 16) as usize] += 1;
     }
 
+    /// Counts an item that was read, by the number that stands for it.
+    pub fn count_item(&mut self, code: u64) {
+        self.by_refusal[(code >> 48) as usize] += 1;
+    }
+
     /// How many answers were compared.
     pub fn all(&self) -> usize {
         self.by_refusal.iter().sum()

@@ -1,19 +1,25 @@
 //! Reading queries: the proved library and the second implementation refuse the
 //! same bytes with the same numbers, and read the same from the others.
 
+use std::ops::RangeInclusive;
+
 use differential::lent::Lent;
 use differential::tally::Tally;
 use differential::{codes, proved};
 use reference::random::Random;
 use reference::samples::{self, Shape};
-use reference::{trials, Query};
+use reference::{refusal, trials, Query};
+
+/// Numbers of items that each comparison reads: all that a query may have, and one past
+/// the most orders and the most dependencies.
+const ITEMS: RangeInclusive<u8> = 0..=16;
 
 /// A comparison of queries, and what was compared so far.
 struct Comparison {
     random: Random,
     checks: Tally,
-    orders: usize,
-    dependencies: usize,
+    orders: Tally,
+    dependencies: Tally,
 }
 
 impl Comparison {
@@ -21,65 +27,65 @@ impl Comparison {
         Self {
             random: Random::new(seed),
             checks: Tally::default(),
-            orders: 0,
-            dependencies: 0,
+            orders: Tally::default(),
+            dependencies: Tally::default(),
         }
     }
 
-    /// Compares the check of a query, and each of its orders and dependencies
-    /// when the second implementation reads it.
+    /// Compares the check of a query, each item that it may have, and any one.
     fn compare(&mut self, query: &[u8]) {
+        let any = self.random.below(256) as u8;
+        self.compare_items(query, ITEMS.chain([any]));
+    }
+
+    /// Compares the check of a query, and orders and dependencies of these numbers.
+    fn compare_items(&mut self, query: &[u8], items: impl Iterator<Item = u8>) {
         let lent = Lent::new(&mut self.random, query);
         let read = Query::read(query);
         let check = proved::query_check(lent.bytes());
         let expected = codes::answer(read.as_ref().map(|_| 0).map_err(|&refusal| refusal));
         assert_eq!(check, expected, "check of query {query:?}");
         self.checks.count(check);
-        match read {
-            Ok(read) => self.compare_items(lent.bytes(), &read),
-            Err(_) => self.read_any_items(lent.bytes()),
+        for i in items {
+            let order = proved::query_order(lent.bytes(), i);
+            assert_eq!(order, order_of(&read, i), "order {i} of query {query:?}");
+            self.orders.count_item(order);
+            let dependency = proved::query_dependency(lent.bytes(), i);
+            let expected = dependency_of(&read, i);
+            assert_eq!(dependency, expected, "dependency {i} of query {query:?}");
+            self.dependencies.count_item(dependency);
         }
         assert!(lent.is_unchanged(), "written to query {query:?}");
     }
 
-    fn compare_items(&mut self, query: &[u8], read: &Query) {
-        for (i, order) in (0..).zip(read.interesting()) {
-            let answer = proved::query_order(query, i);
-            assert_eq!(answer, codes::order(order), "order {i} of query {query:?}");
-            self.orders += 1;
-        }
-        for (i, dependency) in (0..).zip(&read.dependencies) {
-            let answer = proved::query_dependency(query, i);
-            let expected = codes::dependency(dependency);
-            assert_eq!(answer, expected, "dependency {i} of query {query:?}");
-            self.dependencies += 1;
-        }
-    }
-
-    /// Reads items of a refused query, which may reach past its end. What is
-    /// read may not depend on the bytes around the query.
-    fn read_any_items(&mut self, query: &[u8]) {
-        let elsewhere = Lent::new(&mut self.random, query);
-        for _ in 0..4 {
-            let i = self.random.below(256) as u8;
-            for read in [proved::query_order, proved::query_dependency] {
-                let answers = [query, elsewhere.bytes()].map(|query| read(query, i));
-                assert_eq!(answers[0], answers[1], "item {i} of query {query:?}");
-            }
-        }
-        assert!(elsewhere.is_unchanged(), "written to query {query:?}");
-    }
-
     /// Says what was compared.
     fn report(&self, what: &str) {
-        let Self {
-            checks,
-            orders,
-            dependencies,
-            ..
-        } = self;
-        println!("{what}: {checks}; {orders} orders, {dependencies} dependencies");
+        println!("{what}: {}", self.checks);
+        println!("    orders: {}", self.orders);
+        println!("    dependencies: {}", self.dependencies);
     }
+}
+
+/// The number of interesting order i of bytes that the second implementation has read.
+fn order_of(read: &Result<Query, u8>, i: u8) -> u64 {
+    item_of(read, |query| {
+        let order = query.interesting().nth(i.into());
+        order.map(|order| codes::order(order))
+    })
+}
+
+/// The number of dependency i.
+fn dependency_of(read: &Result<Query, u8>, i: u8) -> u64 {
+    item_of(read, |query| {
+        let dependency = query.dependencies.get(usize::from(i));
+        dependency.map(codes::dependency)
+    })
+}
+
+/// The number of an item: the query's refusal, 10 where it is not there, or its value.
+fn item_of(read: &Result<Query, u8>, value: impl Fn(&Query) -> Option<u64>) -> u64 {
+    let read = read.as_ref().map_err(|&refusal| refusal);
+    codes::item(read.and_then(|query| value(query).ok_or(refusal::HANDLE)))
 }
 
 #[test]
@@ -167,4 +173,24 @@ fn random_bytes_as_queries() {
         comparison.compare(&query);
     }
     comparison.report("random bytes as queries");
+}
+
+#[test]
+fn items_of_every_number() {
+    let mut comparison = Comparison::new(8);
+    let random = &mut comparison.random;
+    let mut queries = samples::assorted_bytes(random);
+    for _ in 0..300 {
+        queries.push(samples::query(random, Shape::FULL).write());
+        queries.push(samples::any_query(random));
+        queries.push(samples::with_equal_orders(random).write());
+    }
+    for query in queries {
+        comparison.compare_items(&query, 0..=255);
+    }
+    comparison.report("items of every number");
+    for items in [&comparison.orders, &comparison.dependencies] {
+        let refused = (1..=6).chain([refusal::HANDLE]);
+        assert!(refused.chain([0]).all(|refusal| items.with(refusal) > 1000));
+    }
 }

@@ -3,8 +3,8 @@
 use std::ops::Deref;
 
 use crate::raw;
-use crate::refusal::{granted, Refusal};
-use crate::SetHandle;
+use crate::refusal::{granted, item, Refusal};
+use crate::{OrderHandle, SetHandle};
 
 /// The most columns that an order or a dependency has.
 const MOST_COLUMNS: usize = 4;
@@ -79,13 +79,12 @@ impl<'a> Query<'a> {
 
     /// The orders that an operator can make.
     pub fn produced(self) -> impl Iterator<Item = Columns> + 'a {
-        (0..self.bytes[1]).map(move |i| self.order(i))
+        self.interesting(0, self.bytes[1])
     }
 
     /// The orders that are only looked for.
     pub fn tested(self) -> impl Iterator<Item = Columns> + 'a {
-        let (produced, tested) = (self.bytes[1], self.bytes[2]);
-        (produced..produced + tested).map(move |i| self.order(i))
+        self.interesting(self.bytes[1], self.bytes[2])
     }
 
     /// How many sets there are, empty ones included.
@@ -95,18 +94,21 @@ impl<'a> Query<'a> {
 
     /// The dependencies of all sets.
     pub fn dependencies(self) -> impl Iterator<Item = Dependency> + 'a {
-        (0..self.bytes[4]).map(move |i| self.dependency(i))
+        // None of them is refused, since the query passes the checks 1 to 6.
+        (0..self.bytes[4]).flat_map(move |i| self.dependency(i))
     }
 
-    /// Interesting order i.
-    fn order(self, i: u8) -> Columns {
-        let [length, a, b, c, d, ..] = raw::query_order(self.bytes, i).to_le_bytes();
-        Columns::first([a, b, c, d], length)
+    /// An interesting order, or [`Refusal::Handle`] where the query has none of this
+    /// number.
+    pub fn order(self, order: OrderHandle) -> Result<Columns, Refusal> {
+        let [length, a, b, c, d, _] = item(raw::query_order(self.bytes, order.0))?;
+        Ok(Columns::first([a, b, c, d], length))
     }
 
-    /// Dependency i.
-    fn dependency(self, i: u8) -> Dependency {
-        let [set, kind, a, b, c, d, ..] = raw::query_dependency(self.bytes, i).to_le_bytes();
+    /// Dependency i, counted from 0, or [`Refusal::Handle`] where the query has none of
+    /// this number.
+    pub fn dependency(self, i: u8) -> Result<Dependency, Refusal> {
+        let [set, kind, a, b, c, d] = item(raw::query_dependency(self.bytes, i))?;
         let columns = [a, b, c, d];
         let rule = match kind {
             EQUAL_KIND => Rule::Equal(a, b),
@@ -116,6 +118,12 @@ impl<'a> Query<'a> {
             },
         };
         let set = SetHandle(set);
-        Dependency { set, rule }
+        Ok(Dependency { set, rule })
+    }
+
+    /// So many interesting orders from the first on. None of them is refused, since the
+    /// query passes the checks 1 to 6.
+    fn interesting(self, first: u8, count: u8) -> impl Iterator<Item = Columns> + 'a {
+        (first..first + count).flat_map(move |i| self.order(OrderHandle(i)))
     }
 }

@@ -1,6 +1,7 @@
 //! The proved library's functions as they are: each returns a refusal's number
-//! times 65,536 plus a value, or the item it has read. A slice passes as a
-//! pointer and a length.
+//! times 65,536 plus a value, and those that read an item of a query a refusal's
+//! number times 2 to the 48 plus a value. On refusal the value is 0. A slice passes
+//! as a pointer and a length.
 
 #![allow(unsafe_code)]
 
@@ -68,14 +69,14 @@ pub fn query_check(query: &[u8]) -> u32 {
     unsafe { order_query_check(query.as_ptr(), query.len()) }
 }
 
-/// Interesting order i of a query that passes the checks 1 to 6: its length in
-/// the lowest byte, then its columns, a byte each.
+/// Interesting order i of a query: its length in the lowest byte, then its columns, a
+/// byte each.
 pub fn query_order(query: &[u8], i: u8) -> u64 {
     unsafe { order_query_order(query.as_ptr(), query.len(), i) }
 }
 
-/// Dependency i of a query that passes the checks 1 to 6: its set in the lowest
-/// byte, its kind in the next one, then its columns, a byte each.
+/// Dependency i of a query: its set in the lowest byte, its kind in the next one, then
+/// its columns, a byte each.
 pub fn query_dependency(query: &[u8], i: u8) -> u64 {
     unsafe { order_query_dependency(query.as_ptr(), query.len(), i) }
 }

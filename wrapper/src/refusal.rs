@@ -24,7 +24,8 @@ pub enum Refusal {
     States,
     /// Scratch below 16,384 bytes, or output, text or rows too short.
     Space,
-    /// State, produced order, set or interesting order not in the table or the query.
+    /// State, produced order, set, interesting order or dependency not in the table or
+    /// the query.
     Handle,
     /// A start or successor not below Q, or a held bit past P+T.
     Row,
@@ -86,12 +87,25 @@ impl fmt::Display for Refusal {
 
 impl std::error::Error for Refusal {}
 
+/// The refusal that has a number of the list; none for 0.
+fn passed(number: usize) -> Result<(), Refusal> {
+    match number {
+        0 => Ok(()),
+        number => Err(Refusal::ALL[number - 1]),
+    }
+}
+
 /// The value of a result of the proved library, or its refusal.
 pub(crate) fn value(result: u32) -> Result<u16, Refusal> {
-    match result >> 16 {
-        0 => Ok(result as u16),
-        number => Err(Refusal::ALL[number as usize - 1]),
-    }
+    passed((result >> 16) as usize).map(|()| result as u16)
+}
+
+/// The bytes of an item that the proved library has read, the lowest first, or its
+/// refusal.
+pub(crate) fn item(result: u64) -> Result<[u8; 6], Refusal> {
+    passed((result >> 48) as usize)?;
+    let [a, b, c, d, e, f, ..] = result.to_le_bytes();
+    Ok([a, b, c, d, e, f])
 }
 
 /// A result of the proved library that has no value, or its refusal.

@@ -46,6 +46,25 @@ fn reads_queries() {
 }
 
 #[test]
+fn reads_items_that_are_there() {
+    let mut random = Random::new(2);
+    for _ in 0..100 {
+        let bytes = samples::query(&mut random, samples::Shape::FULL).write();
+        let query = Query::new(&bytes).expect("not refused");
+        let orders: Vec<Columns> = query.produced().chain(query.tested()).collect();
+        let dependencies: Vec<order_tables::Dependency> = query.dependencies().collect();
+        for i in 0..=255 {
+            let order = orders.get(usize::from(i)).copied();
+            let dependency = dependencies.get(usize::from(i)).copied();
+            let read = query.order(OrderHandle(i));
+            assert_eq!(read, order.ok_or(Refusal::Handle), "{i} of {bytes:?}");
+            let read = query.dependency(i);
+            assert_eq!(read, dependency.ok_or(Refusal::Handle), "{i} of {bytes:?}");
+        }
+    }
+}
+
+#[test]
 fn columns_are_equal_where_those_that_are_there_are() {
     // Produced (a), set 0 with a -> b and a -> c.
     let query = [

@@ -37,6 +37,9 @@ pub const LONGEST_TABLE: usize = 1292;
 // A lookup's answer as one number is so many times the refusal's number plus the value.
 pub const REFUSAL_UNIT: u32 = 65536;
 
+// An item of a query as one number is so many times the refusal's number plus the value: 2 to the 48.
+pub const ITEM_REFUSAL_UNIT: u64 = 281474976710656;
+
 // The longest listing: the count, 11 bytes; 8 starts of 14; and 128 states of 58. The longest line of a refusal.
 pub const LONGEST_LISTING: usize = 7547;
 

@@ -1,13 +1,15 @@
-// The functions for C and Rust. A build, a listing, a table check, a trial, a search for two rows and a lookup return the refusal's number times 65,536 plus a value, which is
-// 0 on refusal.
+// The functions for C and Rust. Each returns the refusal's number times a unit plus a value, which is 0 on refusal. The unit is 65,536, and 2 to the 48 where an item of a query
+// is read.
 use counterexample::Found;
 use lookup::Asked;
 use lookup::Mark;
 use lookup::codes;
 use numbers::limits::BODY_WIDTH;
 use numbers::limits::EQUAL_KIND;
+use numbers::limits::ITEM_REFUSAL_UNIT;
 use numbers::limits::REFUSAL_UNIT;
 use numbers::limits::TABLE_SIZES;
+use numbers::refusals::HANDLE;
 use numbers::refusals::PASSED;
 use orders::Order;
 use orders::Rule;
@@ -18,7 +20,7 @@ ghost use mathlib.Core.Path.{_≡_};
 ghost use Prim.Native.Nat.{_+_, _*_, _<_, _≤_, min};
 ghost use Rattle.theory.specs.Limits.{bodyWidth, equalKind, tableSizes};
 ghost use Rattle.theory.specs.Query.{queryRefusal, orderCount, orderAt, dependencyAt};
-ghost use Rattle.theory.specs.Table.{tableRefusal, enter, takeIn, ask, word};
+ghost use Rattle.theory.specs.Table.{tableRefusal, refuse, enter, takeIn, ask, word};
 ghost use Rattle.theory.specs.Build.{outcome, outputAfter, scratchAfter};
 ghost use Rattle.theory.specs.Verification.{verifyRefusal};
 ghost use lib.ListN.{length};
@@ -28,7 +30,7 @@ ghost use Rattle.counterexample.specs.Answers.{foundAnswer};
 ghost use Rattle.theory.specs.Listing.{listing};
 ghost use Rattle.replay.specs.Replay.{lookupsAfter, Modelled};
 ghost use Rattle.query_listing.specs.Listed.{listRefusal, textAfter};
-ghost use Rattle.order_tables.specs.Codes.{refusedCode, buildCode, listCode, rowCode, columnsCode, orderCode, kindCode, ruleColumns, dependencyCode, ShownCode};
+ghost use Rattle.order_tables.specs.Codes.{refusedCode, buildCode, listCode, rowCode, columnsCode, orderCode, kindCode, ruleColumns, dependencyCode, itemCode, orderItemCode, dependencyItemCode, ShownCode};
 
 // An ask: 1 held, 0 not held, or the refusal.
 fn asked(answer: Asked) -> u32
@@ -205,13 +207,34 @@ fn columns(o: Order) -> u64
         + 16777216 * (orders::column(o, 3) as u64)
 }
 
-// Item i of a query, an order: its length, then its columns, a byte each.
-#[no_mangle]
-pub extern "C" fn order_query_order(query: &[u8], i: u8) -> u64
+// A refused item, with the value 0.
+fn item_refused(refusal: u8) -> u64
+    ensures { λ r. ⌜ r ≡ itemCode (refuse refusal) ⌝ }
+{
+    refusal as u64 * ITEM_REFUSAL_UNIT
+}
+
+// What item i says as an order: its length, then its columns, a byte each.
+fn order_value(query: &[u8], i: u8) -> u64
     ensures { λ r. ⌜ r ≡ orderCode (orderAt (now (query .entry)) i) ⌝ }
 {
     let o = query::order(query, i);
     orders::length(o) as u64 + 256 * columns(o)
+}
+
+// Interesting order i of whatever bytes: the query's checks 1 to 6, then 10, then the order.
+#[no_mangle]
+pub extern "C" fn order_query_order(query: &[u8], i: u8) -> u64
+    ensures { λ r. ⌜ r ≡ orderItemCode (now (query .entry)) i ⌝ }
+{
+    let refusal = query_check::check(query);
+    if refusal != PASSED {
+        return item_refused(refusal);
+    }
+    if query::bytes::order_count(query) <= i as u16 {
+        return item_refused(HANDLE);
+    }
+    order_value(query, i)
 }
 
 // How many left columns a fix has: its count, at most four.
@@ -251,12 +274,26 @@ fn named(rule: Rule) -> Order
     }
 }
 
-// Dependency i of a query, counted from 0: its set, its kind, then its columns, a byte each.
-#[no_mangle]
-pub extern "C" fn order_query_dependency(query: &[u8], i: u8) -> u64
+// What the item i behind the orders says as a dependency: its set, its kind, then its columns, a byte each.
+fn dependency_value(query: &[u8], i: u8) -> u64
     ensures { λ r. ⌜ r ≡ dependencyCode (dependencyAt (now (query .entry)) (orderCount (now (query .entry)) + i)) ⌝ }
 {
     let d = query::dependency(query, i);
     let rule = d.rule;
     d.set as u64 + 256 * kind(rule) + 65536 * columns(named(rule))
+}
+
+// Dependency i of whatever bytes: the query's checks 1 to 6, then 10, then the dependency.
+#[no_mangle]
+pub extern "C" fn order_query_dependency(query: &[u8], i: u8) -> u64
+    ensures { λ r. ⌜ r ≡ dependencyItemCode (now (query .entry)) i ⌝ }
+{
+    let refusal = query_check::check(query);
+    if refusal != PASSED {
+        return item_refused(refusal);
+    }
+    if query::dependencies(query) <= i {
+        return item_refused(HANDLE);
+    }
+    dependency_value(query, i)
 }

@@ -1,53 +1,48 @@
--- `order_tables::order_query_dependency` meets its contract: the parts of the dependency that was read, added up.
-use native.Mathlib.Omega.{arith}
-use mathlib.Core.Path.{ap}
-use Rattle.order_tables.specs.Codes.{dependencyCode}
+-- `order_tables::order_query_dependency` meets its contract: the query's refusal, 10, or the value.
+use mathlib.Core.Path.{sym, _∙_}
+use Rattle.order_tables.proofs.ItemLaws.{query-refuses, item-missing, item-there}
 use borrow.Author.Needs.{needs}
+use native.Mathlib.Omega.{arith}
 use Rattle.order_tables.proofs.order_query_dependency.Statement.{statement}
 use Rattle.order_tables.proofs.order_query_dependency.Tie as tie
 
-dependency-requires : tie.Need-dependency-requires
-dependency-requires c κs = search needs
+check-requires : tie.Need-check-requires
+check-requires c κs = search needs
 
-cast-result : tie.Need-cast-result
-cast-result c = search needs
-
-kind-requires : tie.Need-kind-requires
-kind-requires c κs = search needs
-
-mul-result : tie.Need-mul-result
-mul-result c = search needs
-
-add-result : tie.Need-add-result
-add-result c = search needs
-
-named-requires : tie.Need-named-requires
-named-requires c κs = search needs
-
-columns-requires : tie.Need-columns-requires
-columns-requires c κs = search needs
-
-mul-result-2 : tie.Need-mul-result-2
-mul-result-2 c = search needs
-
-add-result-2 : tie.Need-add-result-2
-add-result-2 c = search needs
+item-refused-requires : tie.Need-item-refused-requires
+item-refused-requires c κs = search needs
 
 returns : tie.Need-returns
-unfolding dependencyCode
-returns c = omega (arith, ap dependencyCode (c .before .before .before .before .dependency .ensures))
+returns c = c .item-refused .ensures ∙ query-refuses _ _ _ _ (c .before .before .check .ensures) (c .before .if1 .taken)
+
+dependencies-requires : tie.Need-dependencies-requires
+dependencies-requires c κs = search needs
+
+item-refused-requires-2 : tie.Need-item-refused-requires-2
+item-refused-requires-2 c κs = search needs
+
+returns-2 : tie.Need-returns-2
+returns-2 c =
+    let unrefused = c .before .before .before in
+    c .item-refused2 .ensures ∙ item-missing _ _ _ _ (sym (unrefused .if1 .left) ∙ unrefused .before .check .ensures) (omega arith)
+
+dependency-value-requires : tie.Need-dependency-value-requires
+dependency-value-requires c κs = search needs
+
+returns-3 : tie.Need-returns-3
+returns-3 c =
+    let unrefused = c .before .before .before in
+    c .dependency-value .ensures ∙ item-there _ _ _ _ (sym (unrefused .if1 .left) ∙ unrefused .before .check .ensures) (omega arith)
 
 pub order-query-dependency-spec : {M : Type 1} → statement M
 order-query-dependency-spec =
     tie.close
     (tie.spec
-    dependency-requires
-    cast-result
-    kind-requires
-    mul-result
-    add-result
-    named-requires
-    columns-requires
-    mul-result-2
-    add-result-2
-    returns)
+    check-requires
+    item-refused-requires
+    returns
+    dependencies-requires
+    item-refused-requires-2
+    returns-2
+    dependency-value-requires
+    returns-3)

@@ -1,30 +1,48 @@
--- `order_tables::order_query_order` meets its contract.
-use native.Mathlib.Omega.{arith}
-use Rattle.order_tables.specs.Codes.{orderCode}
+-- `order_tables::order_query_order` meets its contract: the query's refusal, 10, or the value.
+use mathlib.Core.Path.{sym, _∙_}
+use Rattle.order_tables.proofs.ItemLaws.{query-refuses, item-missing, item-there}
 use borrow.Author.Needs.{needs}
+use native.Mathlib.Omega.{arith}
 use Rattle.order_tables.proofs.order_query_order.Statement.{statement}
 use Rattle.order_tables.proofs.order_query_order.Tie as tie
 
-order-requires : tie.Need-order-requires
-order-requires c κs = search needs
+check-requires : tie.Need-check-requires
+check-requires c κs = search needs
 
-length-requires : tie.Need-length-requires
-length-requires c κs = search needs
-
-columns-requires : tie.Need-columns-requires
-columns-requires c κs = search needs
-
-mul-result : tie.Need-mul-result
-mul-result c = search needs
-
-add-result : tie.Need-add-result
-add-result c = search needs
+item-refused-requires : tie.Need-item-refused-requires
+item-refused-requires c κs = search needs
 
 returns : tie.Need-returns
-unfolding orderCode
-returns c = rw (← (c .before .before .order .ensures .order)) (omega arith)
+returns c = c .item-refused .ensures ∙ query-refuses _ _ _ _ (c .before .before .check .ensures) (c .before .if1 .taken)
+
+order-count-requires : tie.Need-order-count-requires
+order-count-requires c κs = search needs
+
+item-refused-requires-2 : tie.Need-item-refused-requires-2
+item-refused-requires-2 c κs = search needs
+
+returns-2 : tie.Need-returns-2
+returns-2 c =
+    let unrefused = c .before .before .before in
+    c .item-refused2 .ensures ∙ item-missing _ _ _ _ (sym (unrefused .if1 .left) ∙ unrefused .before .check .ensures) (omega arith)
+
+order-value-requires : tie.Need-order-value-requires
+order-value-requires c κs = search needs
+
+returns-3 : tie.Need-returns-3
+returns-3 c =
+    let unrefused = c .before .before .before in
+    c .order-value .ensures ∙ item-there _ _ _ _ (sym (unrefused .if1 .left) ∙ unrefused .before .check .ensures) (omega arith)
 
 pub order-query-order-spec : {M : Type 1} → statement M
 order-query-order-spec =
     tie.close
-    (tie.spec order-requires length-requires columns-requires mul-result add-result returns)
+    (tie.spec
+    check-requires
+    item-refused-requires
+    returns
+    order-count-requires
+    item-refused-requires-2
+    returns-2
+    order-value-requires
+    returns-3)

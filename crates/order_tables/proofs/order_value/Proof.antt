@@ -1,0 +1,31 @@
+-- `order_tables::order_value` meets its contract.
+use native.Mathlib.Omega.{arith}
+use mathlib.Core.Path.{ap}
+use Rattle.order_tables.specs.Codes.{orderCode}
+use borrow.Author.Needs.{needs}
+use Rattle.order_tables.proofs.order_value.Statement.{statement}
+use Rattle.order_tables.proofs.order_value.Tie as tie
+
+order-requires : tie.Need-order-requires
+order-requires c κs = search needs
+
+length-requires : tie.Need-length-requires
+length-requires c κs = search needs
+
+columns-requires : tie.Need-columns-requires
+columns-requires c κs = search needs
+
+mul-result : tie.Need-mul-result
+mul-result c = search needs
+
+add-result : tie.Need-add-result
+add-result c = search needs
+
+returns : tie.Need-returns
+unfolding orderCode
+returns c = omega (arith, ap orderCode (c .before .before .order .ensures .order))
+
+pub order-value-spec : {M : Type 1} → statement M
+order-value-spec =
+    tie.close
+    (tie.spec order-requires length-requires columns-requires mul-result add-result returns)
