@@ -1,4 +1,5 @@
 // The interesting orders that are held from a produced order, as a word, bit i for order i.
+use handles::OrderHandle;
 use settled::test;
 ghost use mathlib.Core.Path.{_≡_};
 ghost use mathlib.Core.List.{List};
@@ -29,12 +30,12 @@ pub fn word(
     requires { ⌜ ((rs : List Rule) × InForce (now query) rs (now left) (now right) n start (now classes)) × (p < producedCount (now query)) ⌝ }
     ensures { λ r. ⌜ ((rs : List Rule) → InForce (now (query .entry)) rs (now (left .entry)) (now (right .entry)) n start (now (classes .entry)) → r ≡ number (heldBits (now (query .entry)) rs p)) ⌝ }
 {
-    let produced = query::order(query, p);
+    let produced = query::order(query, OrderHandle(p));
     let mut word: u16 = 0;
     let mut i = query::produced(query) + query::tested(query);
     while 0 < i {
         i -= 1;
-        let order = query::order(query, i);
+        let order = query::order(query, OrderHandle(i));
         word = with_bit(
             word,
             test::held(left, right, n, start, classes, produced, order),

@@ -1,6 +1,8 @@
 // Every produced order under every choice of sets in force: the word of the interesting orders that are held, in its place in the scratch.
 mod held;
 
+use handles::OrderHandle;
+use handles::SetChoice;
 use settled::test;
 ghost use mathlib.Core.Path.{_≡_};
 ghost use Prim.Native.Nat.{_+_, _^_, _≤_, _<_};
@@ -28,7 +30,7 @@ fn settle_pair(
 {
     let sets = query::sets(query) as usize;
     let word = held::word(query, left, right, n, start, classes, p);
-    pair_words::write(work, sets, p as usize, x as usize, word);
+    pair_words::write(work, sets, OrderHandle(p), SetChoice(x), word);
 }
 
 // The held word of every produced order under choice x, from the rules in force.
@@ -61,7 +63,7 @@ fn settle_choice(query: &[u8], work: &mut [u8], x: u8)
     let mut left = [0u16; 32];
     let mut right = [0u16; 32];
     let mut classes = [0u16; 16];
-    let ready = test::prepare(query, x, &mut left, &mut right, &mut classes);
+    let ready = test::prepare(query, SetChoice(x), &mut left, &mut right, &mut classes);
     let n = ready.arrows;
     let start = ready.start;
     settle_orders(query, &left, &right, n, start, &classes, work, x);

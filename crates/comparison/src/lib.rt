@@ -10,12 +10,13 @@ ghost use Rattle.theory.specs.Scratch.{jointStatesLength};
 ghost use Rattle.theory.specs.Table.{statesIn, sizesIn, heldOrders, machineIn};
 ghost use Rattle.joint_states.specs.JointStates.{Comparable, JointWalking};
 ghost use Rattle.comparison.specs.Alike.{AlikeFrom};
+use handles::StateNumber;
 use numbers::limits::MAX_STATES;
 
 // Whether two states hold the same orders, one of each table.
-fn same_held(ours: &[u8], theirs: &[u8], x: usize, y: usize) -> bool
-    requires { ⌜ Comparable (now ours) (now theirs) × (x < statesIn (now ours)) × (y < statesIn (now theirs)) ⌝ }
-    ensures { λ r. ⌜ Says (heldOrders (now (ours .entry)) x ≡ heldOrders (now (theirs .entry)) y) r ⌝ }
+fn same_held(ours: &[u8], theirs: &[u8], x: StateNumber, y: StateNumber) -> bool
+    requires { ⌜ Comparable (now ours) (now theirs) × (x .0 < statesIn (now ours)) × (y .0 < statesIn (now theirs)) ⌝ }
+    ensures { λ r. ⌜ Says (heldOrders (now (ours .entry)) (x .0) ≡ heldOrders (now (theirs .entry)) (y .0)) r ⌝ }
 {
     table::held_word(ours, x) == table::held_word(theirs, y)
 }
@@ -26,7 +27,12 @@ fn alike(ours: &[u8], theirs: &[u8], reached: &[u8], i: usize) -> bool
     ensures { λ r. ⌜ Says (AlikeFrom (now (ours .entry)) (now (theirs .entry)) (now (reached .entry)) i (i + 1)) r ⌝ }
 {
     if bit_sets::has(reached, i) {
-        same_held(ours, theirs, i / MAX_STATES, i % MAX_STATES)
+        same_held(
+            ours,
+            theirs,
+            StateNumber((i / MAX_STATES) as u8),
+            StateNumber((i % MAX_STATES) as u8),
+        )
     } else {
         true
     }

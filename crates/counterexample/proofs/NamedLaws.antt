@@ -1,17 +1,19 @@
--- Which numbers are in the query, by its sizes.
+-- Which numbers are in the query, by its sizes, and when two rows can be asked for.
 use Prim.Native.Nat.{ℕ, _+_, _*_, _/_, _^_, _<_, _≤_}
 use native.Mathlib.Nat.{div-eq-of-lt, lt-div-mul-add}
 use native.Mathlib.Omega.{arith}
 use mathlib.Core.Path.{_≡_, sym, subst}
 use mathlib.Core.Bool.{Bool}
 use lib.Dec.{eqb}
+use lib.ListN.{length}
 use lib.Pow.{pow-pos}
 use Rattle.theory.specs.Tests.{Says, holds, fails}
-use Rattle.theory.specs.Query.{Bytes, producedCount, setCount, orderCount, readQuery}
-use Rattle.theory.specs.Counterexamples.{Named}
+use Rattle.theory.specs.Query.{Bytes, columnCount, producedCount, setCount, orderCount, readQuery, queryRefusal}
+use Rattle.theory.specs.Refusals.{passed}
+use Rattle.theory.specs.Counterexamples.{Named, Askable}
 use Rattle.theory.proofs.Reflect.{says-eqb}
 use Rattle.theory.proofs.BitLaws.{bit-low, low-bits}
-use Rattle.theory.proofs.QueryLaws.{produced-count, order-count, set-count}
+use Rattle.theory.proofs.QueryLaws.{column-count, produced-count, order-count, set-count}
 
 module _ (b : Bytes) (produced sets order : ℕ) where
   -- no produced order has the number
@@ -35,3 +37,8 @@ module _ (b : Bytes) (produced sets order : ℕ) where
             chosen = λ s t. subst (λ n. s < n) (sym (set-count b)) (bit-low (setCount b) sets s (omega (arith, subst (λ n. sets < n * 2 ^ setCount b + 2 ^ setCount b) e (lt-div-mul-add (pow-pos (setCount b))))) t);
           }
       go (fails f) = fails (λ n. f (div-eq-of-lt (low-bits (setCount b) sets (λ s t. subst (λ k. s < k) (set-count b) (n .chosen s t)))))
+
+  -- where two rows of n values fit as well, they can be asked for
+  pub askable : (rows : Bytes) {n : ℕ} → 2 * n ≤ length rows → n ≡ columnCount b → queryRefusal b ≡ passed → Named (readQuery b) produced sets order →
+      Askable b produced sets order rows
+  askable rows h e checked named = record { checked = checked; named = named; room = omega (arith, column-count b) }

@@ -2,6 +2,8 @@
 // a choice says whether set i is in force.
 mod rows;
 
+use handles::OrderHandle;
+use handles::SetChoice;
 use numbers::refusals;
 use settled::Tested;
 use settled::test;
@@ -23,23 +25,23 @@ pub enum Found {
 }
 
 // Whether the produced order, the interesting order and every bit of the choice are in the query.
-fn named(query: &[u8], produced: u8, sets: u8, order: u8) -> bool
+fn named(query: &[u8], produced: OrderHandle, sets: SetChoice, order: OrderHandle) -> bool
     requires { ⌜ queryRefusal (now query) ≡ passed ⌝ }
-    ensures { λ r. ⌜ Says (Named (readQuery (now (query .entry))) produced sets order) r ⌝ }
+    ensures { λ r. ⌜ Says (Named (readQuery (now (query .entry))) (produced .0) (sets .0) (order .0)) r ⌝ }
 {
-    if query::produced(query) <= produced {
+    if query::produced(query) <= produced.0 {
         return false;
     }
-    if query::bytes::order_count(query) <= order as u16 {
+    if query::bytes::order_count(query) <= order.0 as u16 {
         return false;
     }
-    sets as u16 >> query::sets(query) == 0
+    sets.0 as u16 >> query::sets(query) == 0
 }
 
 // The closure test of two of the query's orders, under the choice.
-fn tested(query: &[u8], produced: u8, sets: u8, order: u8) -> Tested
-    requires { ⌜ (queryRefusal (now query) ≡ passed) × (produced < orderCount (now query)) × (order < orderCount (now query)) ⌝ }
-    ensures { λ r. ⌜ Ends (rulesAt (now (query .entry)) sets) (orderAt (now (query .entry)) produced) (orderAt (now (query .entry)) order) r ⌝ }
+fn tested(query: &[u8], produced: OrderHandle, sets: SetChoice, order: OrderHandle) -> Tested
+    requires { ⌜ (queryRefusal (now query) ≡ passed) × (produced .0 < orderCount (now query)) × (order .0 < orderCount (now query)) ⌝ }
+    ensures { λ r. ⌜ Ends (rulesAt (now (query .entry)) (sets .0)) (orderAt (now (query .entry)) (produced .0)) (orderAt (now (query .entry)) (order .0)) r ⌝ }
 {
     let mut left = [0u16; 32];
     let mut right = [0u16; 32];
@@ -53,9 +55,15 @@ fn tested(query: &[u8], produced: u8, sets: u8, order: u8) -> Tested
 }
 
 // Two rows where the test stops, and none where the order is held.
-fn show(query: &[u8], produced: u8, sets: u8, order: u8, rows: &mut [u8]) -> Found
-    requires { ⌜ Askable (now query) produced sets order (now rows) ⌝ }
-    ensures { λ r. ⌜ Shows (now (query .entry)) produced sets order (now (rows .entry)) (foundAnswer r) (now (rows .exit)) × ListedFound r ⌝ }
+fn show(
+    query: &[u8],
+    produced: OrderHandle,
+    sets: SetChoice,
+    order: OrderHandle,
+    rows: &mut [u8],
+) -> Found
+    requires { ⌜ Askable (now query) (produced .0) (sets .0) (order .0) (now rows) ⌝ }
+    ensures { λ r. ⌜ Shows (now (query .entry)) (produced .0) (sets .0) (order .0) (now (rows .entry)) (foundAnswer r) (now (rows .exit)) × ListedFound r ⌝ }
 {
     let n = query::columns(query) as usize;
     match tested(query, produced, sets, order) {
@@ -68,8 +76,14 @@ fn show(query: &[u8], produced: u8, sets: u8, order: u8, rows: &mut [u8]) -> Fou
 }
 
 // Whatever the query's bytes, the numbers and the buffer: the query's checks 1 to 6, 10, 9 for the buffer; then two rows, row after row, or none. Nothing else is written.
-pub fn find(query: &[u8], produced: u8, sets: u8, order: u8, rows: &mut [u8]) -> Found
-    ensures { λ r. ⌜ Shows (now (query .entry)) produced sets order (now (rows .entry)) (foundAnswer r) (now (rows .exit)) ⌝ }
+pub fn find(
+    query: &[u8],
+    produced: OrderHandle,
+    sets: SetChoice,
+    order: OrderHandle,
+    rows: &mut [u8],
+) -> Found
+    ensures { λ r. ⌜ Shows (now (query .entry)) (produced .0) (sets .0) (order .0) (now (rows .entry)) (foundAnswer r) (now (rows .exit)) ⌝ }
     ensures { λ r. ⌜ ListedFound r ⌝ }
 {
     let refusal = query_check::check(query);

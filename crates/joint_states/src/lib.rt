@@ -12,6 +12,7 @@ ghost use Rattle.theory.specs.Scratch.{jointStatesLength};
 ghost use Rattle.theory.specs.Table.{statesIn, producedIn};
 ghost use Rattle.bit_sets.specs.BitSets.{inBits};
 ghost use Rattle.joint_states.specs.JointStates.{jointNumber, Comparable, startJointState, nextJointStates, JointWalking, Added, JointVisited, JointClosed, AllTogether};
+use handles::StateNumber;
 use numbers::limits::MAX_STATES;
 use numbers::limits::TABLE_SIZES;
 
@@ -59,8 +60,8 @@ fn visit(ours: &[u8], theirs: &[u8], reached: &mut [u8], i: usize) -> usize
     ensures { λ r. ⌜ Added i (nextJointStates (now (ours .entry)) (now (theirs .entry)) i) (now (reached .entry)) (now (reached .exit)) r ⌝ }
 {
     let sets = table::sets(ours);
-    let our_row = table::successors(ours, i / MAX_STATES);
-    let their_row = table::successors(theirs, i % MAX_STATES);
+    let our_row = table::successors(ours, StateNumber((i / MAX_STATES) as u8));
+    let their_row = table::successors(theirs, StateNumber((i % MAX_STATES) as u8));
     let mut count = 0;
     let mut s = 0;
     while s < sets {

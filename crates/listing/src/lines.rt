@@ -10,6 +10,7 @@ use crate::text::number_of;
 use crate::text::row_numbers;
 use crate::text::spaced_number;
 use crate::text::word;
+use handles::StateNumber;
 use numbers::limits;
 use table::held_word;
 use table::produced;
@@ -54,9 +55,9 @@ pub fn start_lines(table: &[u8], text: &mut [u8], at: usize) -> usize
 }
 
 // The end of a state's line: its held bits.
-fn held_field(table: &[u8], state: usize, text: &mut [u8], at: usize) -> usize
-    requires { ⌜ Formed (now table) × (state < statesIn (now table)) × (at + longestHeld ≤ length (now text)) ⌝ }
-    ensures { λ r. ⌜ Wrote (now (text .entry)) at (heldField (now (table .entry)) state) longestHeld (now (text .exit)) r ⌝ }
+fn held_field(table: &[u8], state: StateNumber, text: &mut [u8], at: usize) -> usize
+    requires { ⌜ Formed (now table) × (state .0 < statesIn (now table)) × (at + longestHeld ≤ length (now text)) ⌝ }
+    ensures { λ r. ⌜ Wrote (now (text .entry)) at (heldField (now (table .entry)) (state .0)) longestHeld (now (text .exit)) r ⌝ }
 {
     let first = word(text, at, b" held ");
     let end = number_of(text, first, 5, held_word(table, state) as usize);
@@ -64,12 +65,12 @@ fn held_field(table: &[u8], state: usize, text: &mut [u8], at: usize) -> usize
 }
 
 // A state with its successor per set and its held bits.
-fn state_line(table: &[u8], state: usize, text: &mut [u8], at: usize) -> usize
-    requires { ⌜ Formed (now table) × (state < statesIn (now table)) × (at + longestState ≤ length (now text)) ⌝ }
-    ensures { λ r. ⌜ Wrote (now (text .entry)) at (stateLine (now (table .entry)) state) longestState (now (text .exit)) r ⌝ }
+fn state_line(table: &[u8], state: StateNumber, text: &mut [u8], at: usize) -> usize
+    requires { ⌜ Formed (now table) × (state .0 < statesIn (now table)) × (at + longestState ≤ length (now text)) ⌝ }
+    ensures { λ r. ⌜ Wrote (now (text .entry)) at (stateLine (now (table .entry)) (state .0)) longestState (now (text .exit)) r ⌝ }
 {
     let first = word(text, at, b"state ");
-    let second = number(text, first, state);
+    let second = number(text, first, state.0 as usize);
     let third = word(text, second, b" next");
     let end = row_numbers(successors(table, state), text, third);
     held_field(table, state, text, end)
@@ -84,7 +85,7 @@ pub fn state_lines(table: &[u8], text: &mut [u8], at: usize) -> usize
     let mut end = at;
     let mut state = 0;
     while state < n {
-        end = state_line(table, state, text, end);
+        end = state_line(table, StateNumber(state as u8), text, end);
         state += 1;
     }
     end

@@ -11,12 +11,16 @@ use Rattle.theory.specs.Limits.{heldWidth}
 use Rattle.theory.specs.Query.{Bytes, byteAt}
 use Rattle.theory.specs.Refusals.{passed, handle-refused}
 use Rattle.theory.specs.Table as theory
-use Rattle.theory.specs.Table.{Answer, grant, refuse, formRefusal, readRefusal, statesIn, producedIn, testedIn, heldBase, heldIn, heldBit, ask, word}
+use Rattle.theory.specs.Table.{Answer, grant, refuse, formRefusal, readRefusal, statesIn, producedIn, testedIn, heldBase, heldIn, wordIn, heldBit, ask, word}
 use Rattle.theory.proofs.Reflect.{says-eqb, says-ltb}
 use Rattle.theory.proofs.LookupLaw.{ask-granted-is}
 use Rattle.theory.proofs.WordLaws.{word-bit}
 use Rattle.table.specs.Form.{Formed}
 use Rattle.table.proofs.FormLaws.{formed, form-passed}
+
+-- an ask by the word w that was read for its state
+pub ask-bit : {t : Bytes} {state i w : ℕ} (bit : ℕ) → Formed t → state < statesIn t → i < producedIn t + testedIn t → w ≡ wordIn t state → bit ≡ w / 2 ^ i % 2 → grant bit ≡ ask t state i
+ask-bit bit f l h e same = rw (ask-granted-is _ (form-passed f) _ _ l h, ← e) (ap grant same)
 
 module _ (t : Bytes) (state i : ℕ) where
   abbrev orders : ℕ

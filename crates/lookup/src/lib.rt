@@ -1,16 +1,16 @@
-// Lookups in a table's bytes, whatever they are: each answers in constant time or refuses, and knows nothing of the query.
+// Lookups in a table's bytes, whatever they are: each answers in constant time or refuses, and knows nothing of the query. Those of `formed` alone require something of the bytes.
 pub mod codes;
+pub mod formed;
 
 ghost use mathlib.Core.Path.{_≡_};
 ghost use Prim.Native.Nat.{_/_, _<_, _≤_};
-ghost use Rattle.theory.specs.Table.{statesIn, enter, takeIn, ask, word, row, readRefusal};
-ghost use Rattle.table.specs.Form.{Formed};
+ghost use Rattle.theory.specs.Table.{enter, takeIn, ask, word, row, readRefusal};
 ghost use Rattle.lookup.specs.Answers.{refusalUnit, MoveRefusal, movedAnswer, askedAnswer, wordAnswer, ListedMove, ListedAsk, ListedWord, decoded};
+use handles::OrderHandle;
+use handles::SetHandle;
+use handles::StateNumber;
 use numbers::limits;
 use numbers::refusals;
-use table::OrderHandle;
-use table::SetHandle;
-use table::StateNumber;
 
 // What a plan node carries: one state number.
 pub struct Mark {
@@ -74,22 +74,6 @@ fn read_refusal(table: &[u8], state: StateNumber) -> u8
     }
 }
 
-// An ask in a state of the table: 10 for an order that it does not have, else the order's bit of the state's word.
-fn ask_state(table: &[u8], state: usize, i: usize) -> Asked
-    requires { ⌜ Formed (now table) × (state < statesIn (now table)) ⌝ }
-    ensures { λ r. ⌜ askedAnswer r ≡ ask (now (table .entry)) state i ⌝ }
-    ensures { λ r. ⌜ ListedAsk r ⌝ }
-{
-    if table::produced(table) + table::tested(table) <= i {
-        return Asked::Refused(refusals::HANDLE);
-    }
-    if (table::held_word(table, state) >> i) % 2 == 1 {
-        Asked::Held
-    } else {
-        Asked::NotHeld
-    }
-}
-
 // The lookups of a plan node are methods of its mark, by value.
 impl Mark {
     // Take a set: 1, 2, 1, then 10, then 11.
@@ -105,11 +89,11 @@ impl Mark {
         ensures { λ r. ⌜ askedAnswer r ≡ ask (now (table .entry)) (self .state .0) (order .0) ⌝ }
         ensures { λ r. ⌜ ListedAsk r ⌝ }
     {
-        let refusal = read_refusal(table, self.state);
+        let refusal = table::form(table);
         if refusal != refusals::PASSED {
             return Asked::Refused(refusal);
         }
-        ask_state(table, self.state.0 as usize, order.0 as usize)
+        formed::ask(table, self.state, order)
     }
 
     // Hand back the word, as it is in the table: 1, 2, 1, then 10.
@@ -121,7 +105,7 @@ impl Mark {
         if refusal != refusals::PASSED {
             return HeldWord::Refused(refusal);
         }
-        HeldWord::Word(table::held_word(table, self.state.0 as usize))
+        HeldWord::Word(table::held_word(table, self.state))
     }
 }
 
@@ -134,5 +118,5 @@ pub fn row_of<'a, 'b>(table: &'a [u8], state: StateNumber, refusal: &'b mut u8) 
     if refused != refusals::PASSED {
         return &table[..0];
     }
-    table::successors(table, state.0 as usize)
+    table::successors(table, state)
 }

@@ -8,6 +8,8 @@ use counterexample::find;
 use decimal::LARGE_NUMBER;
 use decimal::Word;
 use files::read_argument;
+use handles::OrderHandle;
+use handles::SetChoice;
 use input::Input;
 use libc::STDERR_FILENO;
 use libc::STDOUT_FILENO;
@@ -89,7 +91,13 @@ fn evidence(query: &[u8], produced: u8, sets: u8, order: u8, text: &mut [u8]) ->
     ensures { λ r. ⌜ Told (now (query .entry)) produced sets order (now (text .entry)) (now (text .exit)) r ⌝ }
 {
     let mut rows = [0u8; ROWS_ROOM];
-    match find(query, produced, sets, order, &mut rows) {
+    match find(
+        query,
+        OrderHandle(produced),
+        SetChoice(sets),
+        OrderHandle(order),
+        &mut rows,
+    ) {
         Found::TwoRows => two_rows(&rows, query::columns(query) as usize, text),
         Found::None => none(text),
         Found::Refused(n) => refused(n, text),

@@ -1,6 +1,10 @@
 // The functions for C and Rust. Each returns the refusal's number times a unit plus a value, which is 0 on refusal. The unit is 65,536, and 2 to the 48 where an item of a query
 // is read.
 use counterexample::Found;
+use handles::OrderHandle;
+use handles::SetChoice;
+use handles::SetHandle;
+use handles::StateNumber;
 use lookup::Asked;
 use lookup::Mark;
 use lookup::codes;
@@ -13,9 +17,6 @@ use numbers::refusals::HANDLE;
 use numbers::refusals::PASSED;
 use orders::Order;
 use orders::Rule;
-use table::OrderHandle;
-use table::SetHandle;
-use table::StateNumber;
 ghost use mathlib.Core.Path.{_≡_};
 ghost use Prim.Native.Nat.{_+_, _*_, _<_, _≤_, min};
 ghost use Rattle.theory.specs.Limits.{bodyWidth, equalKind, tableSizes};
@@ -186,7 +187,13 @@ pub extern "C" fn order_query_counterexample(
 ) -> u32
     ensures { λ r. ⌜ ShownCode (now (query .entry)) produced sets order (now (rows .entry)) (now (rows .exit)) r ⌝ }
 {
-    found(counterexample::find(query, produced, sets, order, rows))
+    found(counterexample::find(
+        query,
+        OrderHandle(produced),
+        SetChoice(sets),
+        OrderHandle(order),
+        rows,
+    ))
 }
 
 // Checks 1 to 6 of a query.
@@ -218,7 +225,7 @@ fn item_refused(refusal: u8) -> u64
 fn order_value(query: &[u8], i: u8) -> u64
     ensures { λ r. ⌜ r ≡ orderCode (orderAt (now (query .entry)) i) ⌝ }
 {
-    let o = query::order(query, i);
+    let o = query::order(query, OrderHandle(i));
     orders::length(o) as u64 + 256 * columns(o)
 }
 

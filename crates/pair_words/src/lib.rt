@@ -8,6 +8,8 @@ ghost use Rattle.theory.specs.Limits.{maxProduced, maxSets};
 ghost use Rattle.theory.specs.Scratch.{pairAt, wordAt, heldPart};
 ghost use Rattle.byte_rows.specs.Placed.{placed};
 use byte_rows::word;
+use handles::OrderHandle;
+use handles::SetChoice;
 use numbers::limits::HELD_WIDTH;
 use numbers::scratch::WORDS_PART;
 
@@ -28,11 +30,11 @@ fn place(sets: usize, p: usize, x: usize) -> usize
 }
 
 // The word of produced order p under choice x.
-pub fn read(work: &[u8], sets: usize, p: usize, x: usize) -> u16
-    requires { ⌜ (p < maxProduced) × (sets ≤ maxSets) × (x < 2 ^ sets) × (heldPart ≤ length (now work)) ⌝ }
-    ensures { λ r. ⌜ r ≡ wordAt sets (now (work .entry)) p x ⌝ }
+pub fn read(work: &[u8], sets: usize, p: OrderHandle, x: SetChoice) -> u16
+    requires { ⌜ (p .0 < maxProduced) × (sets ≤ maxSets) × (x .0 < 2 ^ sets) × (heldPart ≤ length (now work)) ⌝ }
+    ensures { λ r. ⌜ r ≡ wordAt sets (now (work .entry)) (p .0) (x .0) ⌝ }
 {
-    let at = place(sets, p, x);
+    let at = place(sets, p.0 as usize, x.0 as usize);
     word(work[at], work[at + 1])
 }
 
@@ -46,9 +48,9 @@ pub fn put(work: &mut [u8], at: usize, word: u16)
 }
 
 // Write the word of produced order p under choice x. All other bytes keep their values.
-pub fn write(work: &mut [u8], sets: usize, p: usize, x: usize, word: u16)
-    requires { ⌜ (p < maxProduced) × (sets ≤ maxSets) × (x < 2 ^ sets) × (heldPart ≤ length (now work)) ⌝ }
-    ensures { λ r. ⌜ now (work .exit) ≡ placed (pairAt sets p x) (word % 256 ∷ word / 256 ∷ []) (now (work .entry)) ⌝ }
+pub fn write(work: &mut [u8], sets: usize, p: OrderHandle, x: SetChoice, word: u16)
+    requires { ⌜ (p .0 < maxProduced) × (sets ≤ maxSets) × (x .0 < 2 ^ sets) × (heldPart ≤ length (now work)) ⌝ }
+    ensures { λ r. ⌜ now (work .exit) ≡ placed (pairAt sets (p .0) (x .0)) (word % 256 ∷ word / 256 ∷ []) (now (work .entry)) ⌝ }
 {
-    put(work, place(sets, p, x), word);
+    put(work, place(sets, p.0 as usize, x.0 as usize), word);
 }

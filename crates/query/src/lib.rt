@@ -2,6 +2,7 @@
 pub mod bytes;
 
 use byte_rows::byte;
+use handles::OrderHandle;
 use numbers::limits;
 use orders::Order;
 use orders::Rule;
@@ -46,10 +47,10 @@ pub fn dependencies(query: &[u8]) -> u8
 }
 
 // Interesting order i: the produced ones come first, then the tested ones.
-pub fn order(query: &[u8], i: u8) -> Order
-    ensures { λ r. ⌜ OrderIs r (orderAt (now (query .entry)) i) ⌝ }
+pub fn order(query: &[u8], i: OrderHandle) -> Order
+    ensures { λ r. ⌜ OrderIs r (orderAt (now (query .entry)) (i .0)) ⌝ }
 {
-    bytes::order_at(query, i as u16)
+    bytes::order_at(query, i.0 as u16)
 }
 
 // What a dependency of a kind says in its four bytes.

@@ -9,13 +9,13 @@ ghost use Rattle.lookup.specs.Answers.{movedAnswer, askedAnswer, ListedMove};
 ghost use Rattle.replay.specs.Replay.{lookupOf, answerTo, stateAfter, replayed, lookupsAfter, Modelled};
 ghost use Rattle.replay.specs.Answered.{Gives, lookupAt, answeredAt};
 use builder::Built;
+use handles::OrderHandle;
+use handles::SetHandle;
+use handles::StateNumber;
 use lookup::Asked;
 use lookup::Mark;
 use lookup::Moved;
 use numbers::refusals::PASSED;
-use table::OrderHandle;
-use table::SetHandle;
-use table::StateNumber;
 
 // The two bytes of an answer, and the mark for the lookups after it.
 struct Answered {

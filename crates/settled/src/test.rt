@@ -4,6 +4,7 @@ use crate::Tested;
 use crate::arrows;
 use crate::close;
 use crate::masks;
+use handles::SetChoice;
 use orders::Order;
 ghost use mathlib.Core.Path.{_≡_};
 ghost use mathlib.Core.List.{List};
@@ -49,16 +50,16 @@ fn meets(classes: &[u16], c: u8, p: Order, at: usize) -> bool
 // What the test is given for the rules in force under choice x.
 pub fn prepare(
     query: &[u8],
-    x: u8,
+    x: SetChoice,
     left: &mut [u16],
     right: &mut [u16],
     classes: &mut [u16],
 ) -> Ready
     requires { ⌜ (queryRefusal (now query) ≡ passed) × (length (now left) ≡ 32) × (length (now right) ≡ 32) × (length (now classes) ≡ 16) ⌝ }
-    ensures { λ r. ⌜ Prepared (rulesAt (now (query .entry)) x) (now (left .exit)) (now (right .exit)) (r .arrows) (r .start) (now (classes .exit)) × (r .arrows ≤ 32) × (length (now (left .exit)) ≡ 32) × (length (now (right .exit)) ≡ 32) × (length (now (classes .exit)) ≡ 16) ⌝ }
+    ensures { λ r. ⌜ Prepared (rulesAt (now (query .entry)) (x .0)) (now (left .exit)) (now (right .exit)) (r .arrows) (r .start) (now (classes .exit)) × (r .arrows ≤ 32) × (length (now (left .exit)) ≡ 32) × (length (now (right .exit)) ≡ 32) × (length (now (classes .exit)) ≡ 16) ⌝ }
 {
-    arrows::classes(query, x, left, right, classes);
-    let arrows = arrows::rules(query, x, left, right);
+    arrows::classes(query, x.0, left, right, classes);
+    let arrows = arrows::rules(query, x.0, left, right);
     let start = close::close(left, right, arrows, 0);
     Ready { arrows, start }
 }

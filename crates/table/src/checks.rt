@@ -15,6 +15,7 @@ use crate::sizes::states;
 use crate::sizes::successors_base;
 use crate::sizes::tested;
 use byte_rows::byte;
+use handles::StateNumber;
 use numbers::limits;
 use numbers::refusals;
 
@@ -70,9 +71,9 @@ fn power(n: usize) -> usize
 }
 
 // The check 11 of a state's held bytes: no bit past P + T is set.
-fn held_refusal(table: &[u8], state: usize) -> u8
-    requires { ⌜ Formed (now table) × (state < statesIn (now table)) ⌝ }
-    ensures { λ r. ⌜ r ≡ heldRefusal (now (table .entry)) state ⌝ }
+fn held_refusal(table: &[u8], state: StateNumber) -> u8
+    requires { ⌜ Formed (now table) × (state .0 < statesIn (now table)) ⌝ }
+    ensures { λ r. ⌜ r ≡ heldRefusal (now (table .entry)) (state .0) ⌝ }
 {
     if (held_word(table, state) as usize) < power(produced(table) + tested(table)) {
         refusals::PASSED
@@ -89,7 +90,7 @@ fn held_rows_refusal(table: &[u8]) -> u8
     let q = states(table);
     let mut state = 0;
     while state < q {
-        let refusal = held_refusal(table, state);
+        let refusal = held_refusal(table, StateNumber(state as u8));
         if refusal != refusals::PASSED {
             return refusal;
         }

@@ -13,10 +13,3 @@ pub use sizes::produced;
 pub use sizes::sets;
 pub use sizes::states;
 pub use sizes::tested;
-
-// Three kinds of handle. One never stands in for another.
-pub struct OrderHandle(pub u8);
-
-pub struct SetHandle(pub u8);
-
-pub struct StateNumber(pub u8);

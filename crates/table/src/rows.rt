@@ -13,22 +13,28 @@ use crate::sizes::sets;
 use crate::sizes::successors_base;
 use byte_rows::copy;
 use byte_rows::row;
+use handles::StateNumber;
 use numbers::limits;
 
 // A state's successor row.
-pub fn successors(table: &[u8], state: usize) -> &[u8]
-    requires { ⌜ Formed (now table) × (state < statesIn (now table)) ⌝ }
-    ensures { λ r. ⌜ (now r ≡ rowIn (now (table .entry)) state) × (length (now r) ≡ setsIn (now (table .entry))) ⌝ }
+pub fn successors(table: &[u8], state: StateNumber) -> &[u8]
+    requires { ⌜ Formed (now table) × (state .0 < statesIn (now table)) ⌝ }
+    ensures { λ r. ⌜ (now r ≡ rowIn (now (table .entry)) (state .0)) × (length (now r) ≡ setsIn (now (table .entry))) ⌝ }
 {
-    row(table, successors_base(table), sets(table), state)
+    row(table, successors_base(table), sets(table), state.0 as usize)
 }
 
 // A state's held word: its two bytes of held bits as one, low byte first.
-pub fn held_word(table: &[u8], state: usize) -> u16
-    requires { ⌜ Formed (now table) × (state < statesIn (now table)) ⌝ }
-    ensures { λ r. ⌜ r ≡ wordIn (now (table .entry)) state ⌝ }
+pub fn held_word(table: &[u8], state: StateNumber) -> u16
+    requires { ⌜ Formed (now table) × (state .0 < statesIn (now table)) ⌝ }
+    ensures { λ r. ⌜ r ≡ wordIn (now (table .entry)) (state .0) ⌝ }
 {
-    let bytes = row(table, held_base(table), limits::HELD_WIDTH, state);
+    let bytes = row(
+        table,
+        held_base(table),
+        limits::HELD_WIDTH,
+        state.0 as usize,
+    );
     byte_rows::word(bytes[0], bytes[1])
 }
 

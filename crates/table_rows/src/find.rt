@@ -8,6 +8,8 @@ ghost use Rattle.theory.specs.AnswerTree.{sameTree};
 ghost use Rattle.theory.specs.Query.{byteAt};
 ghost use Rattle.theory.specs.Scratch.{heldPart, workLength};
 ghost use Rattle.table_rows.specs.Walk.{cutWord, stateOf, rowPlace, rowStates, Whole, Pairs, Wholes};
+use handles::OrderHandle;
+use handles::SetChoice;
 use numbers::limits::HELD_WIDTH;
 use numbers::scratch::HELD_PART;
 
@@ -24,7 +26,7 @@ pub fn cut_word(work: &[u8], bits: usize, sets: usize, p: usize, x: usize) -> us
     requires { ⌜ (bits ≤ maxProduced + maxTested) × (p < maxProduced) × (sets ≤ maxSets) × (x < 2 ^ sets) × (heldPart ≤ length (now work)) ⌝ }
     ensures { λ r. ⌜ (r ≡ cutWord bits sets (take heldPart (now (work .entry))) p x) × (r < 65536) ⌝ }
 {
-    pair_words::read(work, sets, p, x) as usize % power(bits)
+    pair_words::read(work, sets, OrderHandle(p as u8), SetChoice(x as u8)) as usize % power(bits)
 }
 
 // A byte as a number.

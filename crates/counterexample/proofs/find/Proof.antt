@@ -8,6 +8,7 @@ use Rattle.theory.specs.Table.{refuse}
 use Rattle.theory.specs.Counterexamples.{Shows, query-refused, not-named, rows-short}
 use Rattle.theory.proofs.Reflect.{says-true, says-false}
 use Rattle.theory.proofs.QueryLaws.{column-count}
+use Rattle.counterexample.proofs.NamedLaws.{askable}
 use Rattle.counterexample.proofs.find.Statement.{statement}
 use Rattle.counterexample.proofs.find.Tie as tie
 
@@ -16,7 +17,7 @@ check-requires c κs = search needs
 
 returns : tie.Need-returns
 returns c = let a = c .before .before .before .before .args in let q = now (a .query) in let rows = now (a .rows) in
-    (subst (λ n. Shows q (a .produced) (a .sets) (a .order) rows (refuse n) rows) (sym (c .before .check .ensures)) (query-refused (λ e. c .if1 .taken (c .before .check .ensures ∙ e))), c .if1 .taken)
+    (subst (λ n. Shows q (a .produced .0) (a .sets .0) (a .order .0) rows (refuse n) rows) (sym (c .before .check .ensures)) (query-refused (λ e. c .if1 .taken (c .before .check .ensures ∙ e))), c .if1 .taken)
 
 named-requires : tie.Need-named-requires
 named-requires c κs = search needs
@@ -34,12 +35,12 @@ mul-if3 : tie.Need-mul-if3
 mul-if3 c = search needs
 
 show-requires : tie.Need-show-requires
-show-requires c κs = let q = now (c .before .before .before .before .before .before .before .before .before .args .query) in
-    record {
-      checked = sym (c .before .before .before .before .before .before .check .ensures) ∙ c .before .before .before .before .before .if1 .left;
-      named = says-true (c .before .before .before .before .named .ensures) (not-false (c .before .before .before .before .named .result) (c .before .before .before .if2 .left));
-      room = omega (arith, column-count q);
-    }
+show-requires c κs =
+    let counted = c .before .before in
+    let named = counted .before .before in
+    askable _ _ _ _ _ (c .before .if3 .taken) (search needs)
+    (sym (named .before .before .check .ensures) ∙ named .before .if1 .left)
+    (says-true (named .named .ensures) (not-false (named .named .result) (counted .before .if2 .left)))
 
 same-length : tie.Need-same-length
 same-length c = search needs
@@ -48,8 +49,13 @@ returns-3 : tie.Need-returns-3
 returns-3 c = c .before .before .show .ensures
 
 returns-4 : tie.Need-returns-4
-returns-4 c = let q = now (c .before .before .before .before .before .before .before .before .args .query) in
-    (rows-short (sym (c .before .before .before .before .before .check .ensures) ∙ c .before .before .before .before .if1 .left) (says-true (c .before .before .before .named .ensures) (not-false (c .before .before .before .named .result) (c .before .before .if2 .left))) (omega (arith, column-count q)), λ e. omega arith)
+returns-4 c =
+    let named = c .before .before .before in
+    let checked = named .before .before in
+    let q = now (checked .before .before .before .args .query) in (
+      rows-short (sym (checked .check .ensures) ∙ named .before .if1 .left) (says-true (named .named .ensures) (not-false (named .named .result) (c .before .before .if2 .left))) (omega (arith, column-count q)),
+      λ e. omega arith,
+    )
 
 pub find-spec : {M : Type 1} → statement M
 find-spec =

@@ -12,25 +12,42 @@ produced-requires : tie.Need-produced-requires
 produced-requires c κs = search needs
 
 returns : tie.Need-returns
-returns c = let a = c .before .before .before .args in fails (not-entered (now (a .query)) (a .produced) (a .sets) (a .order) (omega arith))
+returns c =
+    let a = c .before .before .before .before .args in
+    fails (not-entered (now (a .query)) (a .produced .0) (a .sets .0) (a .order .0) (omega arith))
 
 order-count-requires : tie.Need-order-count-requires
 order-count-requires c κs = search needs
 
-returns-2 : tie.Need-returns-2
-returns-2 c = let a = c .before .before .before .before .before .args in fails (not-looked-for (now (a .query)) (a .produced) (a .sets) (a .order) (omega arith))
+cast-if2 : tie.Need-cast-if2
+cast-if2 c = search needs
 
-sets-requires : tie.Need-sets-requires
-sets-requires c κs = search needs
+returns-2 : tie.Need-returns-2
+returns-2 c =
+    let counted = c .before .before in
+    let a = counted .before .before .before .before .before .args in
+    fails (not-looked-for (now (a .query)) (a .produced .0) (a .sets .0) (a .order .0) (omega arith))
 
 cast-result : tie.Need-cast-result
 cast-result c = search needs
 
+sets-requires : tie.Need-sets-requires
+sets-requires c κs = search needs
+
+cast-result-2 : tie.Need-cast-result-2
+cast-result-2 c = search needs
+
 shr-result : tie.Need-shr-result
-shr-result c = let s = c .before .before .before .before .before .before in omega (arith, query-sizes (now (s .args .query)) (s .pre) .few-sets)
+shr-result c =
+    let counted = c .before .before .before .before in
+    let s = counted .before .before .before .before .before in
+    omega (arith, query-sizes (now (s .args .query)) (s .pre) .few-sets)
 
 returns-3 : tie.Need-returns-3
-returns-3 c = let a = c .before .before .before .before .before .before .args in rw (c .sets .ensures) (chosen-says (now (a .query)) (a .produced) (a .sets) (a .order) (omega arith) (omega arith))
+returns-3 c =
+    let counted = c .before .before .before .before in
+    let a = counted .before .before .before .before .before .args in
+    rw (c .sets .ensures) (chosen-says (now (a .query)) (a .produced .0) (a .sets .0) (a .order .0) (omega arith) (omega arith))
 
 pub named-spec : {M : Type 1} → statement M
 named-spec =
@@ -39,8 +56,10 @@ named-spec =
     produced-requires
     returns
     order-count-requires
+    cast-if2
     returns-2
-    sets-requires
     cast-result
+    sets-requires
+    cast-result-2
     shr-result
     returns-3)

@@ -33,14 +33,14 @@ write-requires c κs = let s = c .before .before .before .before .before .before
 
 returns : tie.Need-returns
 returns c = let s = c .before .before .before .before .before .before in let a = s .args in let q = now (a .query) in
-    (held-shows q (a .produced) (a .sets) (a .order) (s .pre) (subst (Ends (rulesAt q (a .sets)) (orderAt q (a .produced)) (orderAt q (a .order))) (c .enum-told .given .1) (c .before .before .tested .ensures)), tt)
+    (held-shows q (a .produced .0) (a .sets .0) (a .order .0) (s .pre) (subst (Ends (rulesAt q (a .sets .0)) (orderAt q (a .produced .0)) (orderAt q (a .order .0))) (c .enum-told .given .1) (c .before .before .tested .ensures)), tt)
 
 same-length : tie.Need-same-length
 same-length c = search needs
 
 returns-2 : tie.Need-returns-2
 returns-2 c = let s = c .before .before .before .before .before .before .before .before .before .before .before in let a = s .args in let q = now (a .query) in (
-  stop-shows q (a .produced) (a .sets) (a .order) (s .pre) _ _ (subst (Ends (rulesAt q (a .sets)) (orderAt q (a .produced)) (orderAt q (a .order))) (c .before .before .before .before .before .settled .given .1) (c .before .before .before .before .before .before .before .tested .ensures))
+  stop-shows q (a .produced .0) (a .sets .0) (a .order .0) (s .pre) _ _ (subst (Ends (rulesAt q (a .sets .0)) (orderAt q (a .produced .0)) (orderAt q (a .order .0))) (c .before .before .before .before .before .settled .given .1) (c .before .before .before .before .before .before .before .tested .ensures))
       _ (c .before .before .before .before .before .before .before .before .columns .ensures ∙ sym (column-count q)) (c .before .before .write .ensures),
   tt,
 )

@@ -47,8 +47,8 @@ test-requires c κs = let s = c .before .before .before .before .before .before 
 
 returns : tie.Need-returns
 returns c = let a = c .before .before .before .before .before .before .before .before .before .before .before .before .before .before .args in
-    subst₂ (λ p o. Ends (rulesAt (now (a .query)) (a .sets)) p o (c .test .result)) (c .before .before .before .before .before .order .ensures .order) (c .before .before .before .before .order2 .ensures .order)
-    (c .test .ensures (rulesAt (now (a .query)) (a .sets)) (c .before .before .before .before .before .before .before .before .before .prepare .ensures .0))
+    subst₂ (λ p o. Ends (rulesAt (now (a .query)) (a .sets .0)) p o (c .test .result)) (c .before .before .before .before .before .order .ensures .order) (c .before .before .before .before .order2 .ensures .order)
+    (c .test .ensures (rulesAt (now (a .query)) (a .sets .0)) (c .before .before .before .before .before .before .before .before .before .prepare .ensures .0))
 
 pub tested-spec : {M : Type 1} → statement M
 tested-spec =

@@ -29,8 +29,14 @@ abbrev μ-loop : tie.MeasureT-loop
 sets-requires : tie.Need-sets-requires Inv-loop μ-loop
 sets-requires c κs = search needs
 
+cast-t11 : tie.Need-cast-t11 Inv-loop μ-loop
+cast-t11 c = search needs
+
 successors-requires : tie.Need-successors-requires Inv-loop μ-loop
 successors-requires c κs = let s = c .before .before .before .before in let w = s .pre .0 in (our-form (w .comparable), joint-below (w .comparable) _ (w .sound (s .args .i) (s .pre .1)) .0)
+
+cast-t11-2 : tie.Need-cast-t11-2 Inv-loop μ-loop
+cast-t11-2 c = search needs
 
 successors-requires-2 : tie.Need-successors-requires-2 Inv-loop μ-loop
 successors-requires-2 c κs = let s = c .before .before .before .before .before in let w = s .pre .0 in (their-form (w .comparable), joint-below (w .comparable) _ (w .sound (s .args .i) (s .pre .1)) .1)
@@ -84,7 +90,9 @@ visit-spec =
     Inv-loop
     μ-loop
     sets-requires
+    cast-t11
     successors-requires
+    cast-t11-2
     successors-requires-2
     loop-holds
     shared-slice-read-joint-state

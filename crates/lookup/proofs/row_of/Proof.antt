@@ -17,16 +17,13 @@ returns : tie.Need-returns
 unfolding row
 returns c = (rw (← c .before .before .read-refusal .ensures) (search picks), c .before .before .read-refusal .ensures)
 
-cast-successors : tie.Need-cast-successors
-cast-successors c = search needs
-
 successors-requires : tie.Need-successors-requires
-successors-requires c κs = read-granted _ _ (sym (c .before .before .read-refusal .ensures) ∙ c .before .if1 .left)
+successors-requires c κs = read-granted _ _ (sym (c .before .read-refusal .ensures) ∙ c .if1 .left)
 
 returns-2 : tie.Need-returns-2
 unfolding row
 returns-2 c =
-    let r = c .before .before .before .read-refusal .ensures in
+    let r = c .before .before .read-refusal .ensures in
     (rw (← r) (search (picks, c .successors .ensures .0)), r)
 
 pub row-of-spec : {M : Type 1} → statement M
@@ -36,6 +33,5 @@ row-of-spec =
     read-refusal-requires
     slice-aggregate-result
     returns
-    cast-successors
     successors-requires
     returns-2)

@@ -8,6 +8,12 @@ use Rattle.theory.specs.Query.{byteAt}
 use Rattle.pair_words.proofs.read.Statement.{statement}
 use Rattle.pair_words.proofs.read.Tie as tie
 
+cast-place : tie.Need-cast-place
+cast-place c = search needs
+
+cast-place-2 : tie.Need-cast-place-2
+cast-place-2 c = search needs
+
 place-requires : tie.Need-place-requires
 place-requires c κs = search needs
 
@@ -25,8 +31,9 @@ word-requires c κs = search needs
 
 returns : tie.Need-returns
 returns c =
-    let w = now (c .before .before .before .before .before .args .work) in
-    let p = c .before .before .before .place in
+    let here = c .before .before .before in
+    let w = now (here .before .before .before .before .args .work) in
+    let p = here .place in
     c .word .ensures
     ∙ ap (λ k. byteAt w (p .result) + 256 * byteAt w k) (add-one (p .result))
     ∙ ap (λ k. byteAt w k + 256 * byteAt w (suc k)) (p .ensures .0)
@@ -35,6 +42,8 @@ pub read-spec : {M : Type 1} → statement M
 read-spec =
     tie.close
     (tie.spec
+    cast-place
+    cast-place-2
     place-requires
     shared-slice-read-word
     add-word

@@ -8,6 +8,12 @@ use borrow.Author.Needs.{needs}
 use Rattle.pair_words.proofs.write.Statement.{statement}
 use Rattle.pair_words.proofs.write.Tie as tie
 
+cast-place : tie.Need-cast-place
+cast-place c = search needs
+
+cast-place-2 : tie.Need-cast-place-2
+cast-place-2 c = search needs
+
 place-requires : tie.Need-place-requires
 place-requires c κs = search needs
 
@@ -18,7 +24,10 @@ same-length : tie.Need-same-length
 same-length c = search needs
 
 returns : tie.Need-returns
-returns c = let a = c .before .before .before .before .before .before .args in c .before .before .put .ensures ∙ ap (λ k. placed k (a .word % 256 ∷ a .word / 256 ∷ []) (now (a .work))) (c .before .before .before .place .ensures .0)
+returns c =
+    let here = c .before .before .before in
+    let a = here .before .before .before .before .before .args in
+    c .before .before .put .ensures ∙ ap (λ k. placed k (a .word % 256 ∷ a .word / 256 ∷ []) (now (a .work))) (here .place .ensures .0)
 
 pub write-spec : {M : Type 1} → statement M
-write-spec = tie.close (tie.spec place-requires put-requires same-length returns)
+write-spec = tie.close (tie.spec cast-place cast-place-2 place-requires put-requires same-length returns)

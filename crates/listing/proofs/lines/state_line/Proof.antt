@@ -14,6 +14,9 @@ slice-aggregate-word c = search needs
 word-requires : tie.Need-word-requires
 word-requires c κs = search needs
 
+cast-number : tie.Need-cast-number
+cast-number c = search needs
+
 number-requires : tie.Need-number-requires
 number-requires c κs = search needs
 
@@ -42,10 +45,11 @@ returns c =
     let row = end .before .before .before .before in
     let next = row .before .before .before .before .before in
     let state = next .before .before .before .before .before in
-    let start = state .before .before .before .before .before .before .before .before .before in
+    let head = state .before .before .before .before .before in
+    let start = head .before .before .before .before .before in
     let row-short : Wrote _ _ _ longestRow _ _ = wrote-as refl (omega (arith, row .before .before .successors .ensures .1, start .pre .0)) (row .row-numbers .ensures) in
     rw (← row .before .before .successors .ensures .0)
-    (wrote-on (state .before .before .before .before .word .ensures)
+    (wrote-on (head .word .ensures)
     (wrote-on (state .number .ensures) (wrote-on (next .word2 .ensures) (wrote-on row-short (end .held-field .ensures)))))
 
 pub state-line-spec : {M : Type 1} → statement M
@@ -54,6 +58,7 @@ state-line-spec =
     (tie.spec
     slice-aggregate-word
     word-requires
+    cast-number
     number-requires
     slice-aggregate-word-2
     word-requires-2

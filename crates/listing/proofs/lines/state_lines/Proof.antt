@@ -27,6 +27,9 @@ loop-holds : tie.Need-loop-holds Inv-loop μ-loop
 unfolding flatten
 loop-holds c = (search needs, refl, wrote-none _ _ (omega arith))
 
+cast-t8 : tie.Need-cast-t8 Inv-loop μ-loop
+cast-t8 c = search needs
+
 state-line-requires : tie.Need-state-line-requires Inv-loop μ-loop
 state-line-requires c κs = search needs
 
@@ -60,6 +63,7 @@ state-lines-spec =
     μ-loop
     states-requires
     loop-holds
+    cast-t8
     state-line-requires
     add-state
     loop-less

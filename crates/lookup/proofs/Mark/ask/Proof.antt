@@ -1,27 +1,24 @@
--- `lookup::Mark::ask` meets its contract: where the state's word is not read the ask is refused, and else it is asked in a state of the table.
+-- `lookup::Mark::ask` meets its contract: a refused form refuses, and a form that passes is what the rest requires.
 use mathlib.Core.Path.{sym, _∙_}
 use borrow.Author.Needs.{needs}
-use Rattle.lookup.proofs.LookupLaws.{read-granted, read-listed, ask-unread}
+use Rattle.theory.specs.Table.{ask}
+use Rattle.table.proofs.FormLaws.{formed}
+use Rattle.lookup.proofs.LookupLaws.{form-refuses, form-read}
 use Rattle.lookup.proofs.Mark.ask.Statement.{statement}
 use Rattle.lookup.proofs.Mark.ask.Tie as tie
 
-read-refusal-requires : tie.Need-read-refusal-requires
-read-refusal-requires c κs = search needs
+form-requires : tie.Need-form-requires
+form-requires c κs = search needs
 
 returns : tie.Need-returns
-returns c = let r = c .before .read-refusal .ensures in (ask-unread _ _ r (c .if1 .taken) _, read-listed _ _ r (c .if1 .taken))
+unfolding ask
+returns c = let e = c .before .form .ensures in (form-refuses _ _ e (c .if1 .taken), form-read _ e (c .if1 .taken))
 
-cast-ask-state : tie.Need-cast-ask-state
-cast-ask-state c = search needs
-
-cast-ask-state-2 : tie.Need-cast-ask-state-2
-cast-ask-state-2 c = search needs
-
-ask-state-requires : tie.Need-ask-state-requires
-ask-state-requires c κs = read-granted _ _ (sym (c .before .before .before .read-refusal .ensures) ∙ c .before .before .if1 .left)
+ask-requires : tie.Need-ask-requires
+ask-requires c κs = formed _ (sym (c .before .form .ensures) ∙ c .if1 .left)
 
 returns-2 : tie.Need-returns-2
 returns-2 c = search needs
 
 pub ask-spec : {M : Type 1} → statement M
-ask-spec = tie.close (tie.spec read-refusal-requires returns cast-ask-state cast-ask-state-2 ask-state-requires returns-2)
+ask-spec = tie.close (tie.spec form-requires returns ask-requires returns-2)

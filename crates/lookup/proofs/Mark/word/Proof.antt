@@ -14,19 +14,16 @@ returns : tie.Need-returns
 unfolding word
 returns c = let r = c .before .read-refusal .ensures in (rw (← r) (search picks), read-listed _ _ r (c .if1 .taken))
 
-cast-held-word : tie.Need-cast-held-word
-cast-held-word c = search needs
-
 held-word-requires : tie.Need-held-word-requires
-held-word-requires c κs = read-granted _ _ (sym (c .before .before .read-refusal .ensures) ∙ c .before .if1 .left)
+held-word-requires c κs = read-granted _ _ (sym (c .before .read-refusal .ensures) ∙ c .if1 .left)
 
 returns-2 : tie.Need-returns-2
 unfolding word
 returns-2 c =
-    let r = c .before .before .before .read-refusal .ensures in
+    let r = c .before .before .read-refusal .ensures in
     (rw (← r) (search (picks, ap grant (c .held-word .ensures))), search needs)
 
 pub word-spec : {M : Type 1} → statement M
 word-spec =
     tie.close
-    (tie.spec read-refusal-requires returns cast-held-word held-word-requires returns-2)
+    (tie.spec read-refusal-requires returns held-word-requires returns-2)

@@ -18,11 +18,11 @@ returns : tie.Need-returns
 unfolding enter
 returns c = c .refused .ensures ∙ ap answerCode (form-refuses _ _ (c .before .before .form .ensures) (c .before .if1 .taken))
 
-enter-formed-requires : tie.Need-enter-formed-requires
-enter-formed-requires c κs = formed _ (sym (c .before .form .ensures) ∙ c .if1 .left)
+enter-requires : tie.Need-enter-requires
+enter-requires c κs = formed _ (sym (c .before .form .ensures) ∙ c .if1 .left)
 
 returns-2 : tie.Need-returns-2
 returns-2 c = search needs
 
 pub enter-spec : {M : Type 1} → statement M
-enter-spec = tie.close (tie.spec form-requires refused-requires returns enter-formed-requires returns-2)
+enter-spec = tie.close (tie.spec form-requires refused-requires returns enter-requires returns-2)

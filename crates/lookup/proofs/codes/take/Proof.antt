@@ -18,11 +18,11 @@ returns : tie.Need-returns
 unfolding takeIn
 returns c = c .refused .ensures ∙ ap answerCode (form-refuses _ _ (c .before .before .form .ensures) (c .before .if1 .taken))
 
-take-formed-requires : tie.Need-take-formed-requires
-take-formed-requires c κs = formed _ (sym (c .before .form .ensures) ∙ c .if1 .left)
+take-requires : tie.Need-take-requires
+take-requires c κs = formed _ (sym (c .before .form .ensures) ∙ c .if1 .left)
 
 returns-2 : tie.Need-returns-2
 returns-2 c = search needs
 
 pub take-spec : {M : Type 1} → statement M
-take-spec = tie.close (tie.spec form-requires refused-requires returns take-formed-requires returns-2)
+take-spec = tie.close (tie.spec form-requires refused-requires returns take-requires returns-2)

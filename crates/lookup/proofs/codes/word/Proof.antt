@@ -12,11 +12,8 @@ use Rattle.lookup.proofs.codes.word.Tie as tie
 read-refusal-requires : tie.Need-read-refusal-requires
 read-refusal-requires c κs = search needs
 
-cast-held-word : tie.Need-cast-held-word
-cast-held-word c = search needs
-
 held-word-requires : tie.Need-held-word-requires
-held-word-requires c κs = read-granted _ _ (sym (c .before .before .read-refusal .ensures) ∙ c .before .if1 .taken)
+held-word-requires c κs = read-granted _ _ (sym (c .before .read-refusal .ensures) ∙ c .if1 .taken)
 
 cast-result : tie.Need-cast-result
 cast-result c = search needs
@@ -27,7 +24,7 @@ refused-requires c κs = search needs
 returns : tie.Need-returns
 unfolding word
 returns c =
-    rw (eq-eqb _ _ (sym (c .before .before .before .read-refusal .ensures) ∙ c .before .before .if1 .taken)) (omega (arith, c .held-word .ensures))
+    rw (eq-eqb _ _ (sym (c .before .before .read-refusal .ensures) ∙ c .before .if1 .taken)) (omega (arith, c .held-word .ensures))
 
 returns-2 : tie.Need-returns-2
 unfolding word
@@ -38,7 +35,6 @@ word-spec =
     tie.close
     (tie.spec
     read-refusal-requires
-    cast-held-word
     held-word-requires
     cast-result
     refused-requires

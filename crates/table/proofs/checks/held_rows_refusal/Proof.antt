@@ -21,6 +21,9 @@ states-requires c κs = search needs
 loop-holds : tie.Need-loop-holds Inv-loop μ-loop
 loop-holds c = (search needs, refl)
 
+cast-t6 : tie.Need-cast-t6 Inv-loop μ-loop
+cast-t6 c = search needs
+
 held-refusal-requires : tie.Need-held-refusal-requires Inv-loop μ-loop
 held-refusal-requires c κs = search needs
 
@@ -56,6 +59,7 @@ held-rows-refusal-spec =
     μ-loop
     states-requires
     loop-holds
+    cast-t6
     held-refusal-requires
     returns
     add-state

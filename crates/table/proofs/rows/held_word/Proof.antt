@@ -6,6 +6,9 @@ use Rattle.table.proofs.rows.held_word.Tie as tie
 held-base-requires : tie.Need-held-base-requires
 held-base-requires c κs = search needs
 
+cast-row : tie.Need-cast-row
+cast-row c = search needs
+
 row-requires : tie.Need-row-requires
 row-requires c κs = search needs
 
@@ -24,4 +27,4 @@ returns c = cc
 pub held-word-spec : {M : Type 1} → statement M
 held-word-spec =
     tie.close
-    (tie.spec held-base-requires row-requires shared-slice-read-word shared-slice-read-word-2 word-requires returns)
+    (tie.spec held-base-requires cast-row row-requires shared-slice-read-word shared-slice-read-word-2 word-requires returns)

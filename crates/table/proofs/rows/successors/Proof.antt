@@ -11,13 +11,17 @@ successors-base-requires c κs = search needs
 sets-requires : tie.Need-sets-requires
 sets-requires c κs = search needs
 
+cast-row : tie.Need-cast-row
+cast-row c = search needs
+
 row-requires : tie.Need-row-requires
 row-requires c κs =
-    let known = c .before .before .before .pre in
-    rw (c .before .successors-base .ensures .0, c .sets .ensures .0) (row-fits _ _ (omega arith) (known .1))
+    let based = c .before .before in
+    let known = based .before .before .pre in
+    rw (based .successors-base .ensures .0, c .before .sets .ensures .0) (row-fits _ _ (omega arith) (known .1))
 
 returns : tie.Need-returns
 returns c = (cc, cc)
 
 pub successors-spec : {M : Type 1} → statement M
-successors-spec = tie.close (tie.spec successors-base-requires sets-requires row-requires returns)
+successors-spec = tie.close (tie.spec successors-base-requires sets-requires cast-row row-requires returns)

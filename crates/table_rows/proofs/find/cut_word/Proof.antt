@@ -8,9 +8,15 @@ use lib.ListN.{take}
 use lib.Seq.{take-take}
 use borrow.Author.Needs.{needs}
 use Rattle.theory.specs.Scratch.{heldPart}
-use Rattle.pair_words.proofs.PairWords.{word-same}
+use Rattle.pair_words.proofs.PairWords.{choice-few, word-same}
 use Rattle.table_rows.proofs.find.cut_word.Statement.{statement}
 use Rattle.table_rows.proofs.find.cut_word.Tie as tie
+
+cast-t7 : tie.Need-cast-t7
+cast-t7 c = search needs
+
+cast-t9 : tie.Need-cast-t9
+cast-t9 c = let s = c .before in omega (arith, s .pre .3, choice-few (s .args .sets) (s .pre .2))
 
 read-requires : tie.Need-read-requires
 read-requires c κs = search needs
@@ -34,4 +40,4 @@ returns c =
     (ap₂ _%_ (r .ensures ∙ front) (c .power .ensures .0), omega (arith, mod-le (r .result) (c .power .result)))
 
 pub cut-word-spec : {M : Type 1} → statement M
-cut-word-spec = tie.close (tie.spec read-requires cast-result power-requires rem-result returns)
+cut-word-spec = tie.close (tie.spec cast-t7 cast-t9 read-requires cast-result power-requires rem-result returns)

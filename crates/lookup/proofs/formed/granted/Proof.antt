@@ -1,9 +1,9 @@
--- `lookup::codes::granted` meets its contract: the one test picks the answer.
+-- `lookup::formed::granted` meets its contract: the one test picks the answer.
 use native.Mathlib.Omega.{arith}
 use borrow.Author.Needs.{needs}
 use borrow.Author.Tests.{lt-ltb, le-ltb}
-use Rattle.lookup.proofs.codes.granted.Statement.{statement}
-use Rattle.lookup.proofs.codes.granted.Tie as tie
+use Rattle.lookup.proofs.formed.granted.Statement.{statement}
+use Rattle.lookup.proofs.formed.granted.Tie as tie
 
 states-requires : tie.Need-states-requires
 states-requires c κs = search needs

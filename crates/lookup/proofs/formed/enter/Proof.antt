@@ -1,4 +1,4 @@
--- `lookup::codes::enter_formed` meets its contract: the test that led to each answer picks it.
+-- `lookup::formed::enter` meets its contract: the test that led to each answer picks it.
 use Prim.Native.Nat.{_<_, _≤_}
 use native.Mathlib.Omega.{arith}
 use mathlib.Core.Path.{_≡_, _∙_, ap}
@@ -9,8 +9,8 @@ use Rattle.theory.specs.Table.{producedIn, startIn, refuse, grantState, enter}
 use Rattle.theory.proofs.Picks.{picks}
 use Rattle.table.proofs.FormLaws.{form-passed}
 use Rattle.lookup.specs.Answers.{answerCode}
-use Rattle.lookup.proofs.codes.enter_formed.Statement.{statement}
-use Rattle.lookup.proofs.codes.enter_formed.Tie as tie
+use Rattle.lookup.proofs.formed.enter.Statement.{statement}
+use Rattle.lookup.proofs.formed.enter.Tie as tie
 
 cast-p : tie.Need-cast-p
 cast-p c = search needs
@@ -49,8 +49,8 @@ returns-2 c =
     let e : refuse handle-refused ≡ enter (now (a .table)) (a .order .0) = rw (form-passed (s .pre)) (search picks) in
     c .refused .ensures ∙ ap answerCode e
 
-pub enter-formed-spec : {M : Type 1} → statement M
-enter-formed-spec =
+pub enter-spec : {M : Type 1} → statement M
+enter-spec =
     tie.close
     (tie.spec
     cast-p

@@ -1,4 +1,4 @@
--- `lookup::codes::take_formed` meets its contract: the tests that led to each answer pick it.
+-- `lookup::formed::take` meets its contract: the tests that led to each answer pick it.
 use Prim.Native.Nat.{_<_, _≤_}
 use native.Mathlib.Omega.{arith}
 use mathlib.Core.Path.{_≡_, _∙_, ap}
@@ -9,8 +9,8 @@ use Rattle.theory.specs.Table.{statesIn, setsIn, successorIn, refuse, grantStat
 use Rattle.theory.proofs.Picks.{picks}
 use Rattle.table.proofs.FormLaws.{form-passed}
 use Rattle.lookup.specs.Answers.{answerCode}
-use Rattle.lookup.proofs.codes.take_formed.Statement.{statement}
-use Rattle.lookup.proofs.codes.take_formed.Tie as tie
+use Rattle.lookup.proofs.formed.take.Statement.{statement}
+use Rattle.lookup.proofs.formed.take.Tie as tie
 
 cast-q : tie.Need-cast-q
 cast-q c = search needs
@@ -69,8 +69,8 @@ returns-3 c =
     rw (form-passed (s .pre)) (search picks) in
     (rw (c .before .before .successors .ensures .0) at (c .granted .ensures)) ∙ ap answerCode e
 
-pub take-formed-spec : {M : Type 1} → statement M
-take-formed-spec =
+pub take-spec : {M : Type 1} → statement M
+take-spec =
     tie.close
     (tie.spec
     cast-q
