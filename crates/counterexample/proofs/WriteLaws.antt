@@ -25,12 +25,12 @@ unsettled-value false settled true same e s = rw (e, ← s)
 unsettled-value false settled false same e s = rw (e, ← s)
 
 -- a row's values by column
-abbrev pub valueOf : Bool → ℕ → ℕ → ℕ → ℕ
-valueOf first settled class c = valueIn first (inMask settled c) (inMask class c)
+abbrev pub writtenValue : Bool → ℕ → ℕ → ℕ → ℕ
+writtenValue first settled class c = valueIn first (inMask settled c) (inMask class c)
 
 -- one value more is written
-pub wrote-more : (first : Bool) (settled class at c v : ℕ) (rows : Bytes) → v ≡ valueOf first settled class c → at + c < length rows
+pub wrote-more : (first : Bool) (settled class at c v : ℕ) (rows : Bytes) → v ≡ writtenValue first settled class c → at + c < length rows
     → set (placed at (rowBy first settled class c) rows) (at + c) v ≡ placed at (rowBy first settled class (c + 1)) rows
 wrote-more first settled class at c v rows e h =
-    placed-store at (at + c) (rowBy first settled class c) v rows (ap (λ n. at + n) (entry-count (valueOf first settled class) 0 c)) h
-    ∙ ap (λ l. placed at l rows) (ap (λ k. rowBy first settled class c ++ (k ∷ [])) e ∙ sym (map-more (valueOf first settled class) 0 c c (sym (zero-add c))))
+    placed-store at (at + c) (rowBy first settled class c) v rows (ap (λ n. at + n) (entry-count (writtenValue first settled class) 0 c)) h
+    ∙ ap (λ l. placed at l rows) (ap (λ k. rowBy first settled class c ++ (k ∷ [])) e ∙ sym (map-more (writtenValue first settled class) 0 c c (sym (zero-add c))))

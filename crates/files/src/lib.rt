@@ -2,11 +2,11 @@
 use input::Input;
 use input::read_front;
 ghost use lib.ListN.{length};
-ghost use Rattle.input.specs.Within.{Within};
+ghost use Rattle.input.specs.Within.{ReadWithin};
 
 // Reads the beginning of the file of that name.
 fn read_file(name: &[u8], buffer: &mut [u8]) -> Input
-    ensures { λ r. ⌜ Within r (length (now (buffer .exit))) ⌝ }
+    ensures { λ r. ⌜ ReadWithin r (length (now (buffer .exit))) ⌝ }
 {
     let fd = os::open_read(name);
     if fd < 0 {
@@ -23,7 +23,7 @@ fn read_file(name: &[u8], buffer: &mut [u8]) -> Input
 
 // The same of the file that an argument names.
 pub fn read_argument(i: usize, buffer: &mut [u8]) -> Input
-    ensures { λ r. ⌜ Within r (length (now (buffer .exit))) ⌝ }
+    ensures { λ r. ⌜ ReadWithin r (length (now (buffer .exit))) ⌝ }
 {
     let mut name = io::buffer();
     let length = os::arg(i, &mut name);

@@ -3,6 +3,6 @@ use Prim.Native.Nat.{ℕ, _≤_}
 use Rattle.input.specs.declared.Input.{Input}
 use Rattle.input.specs.declared.Input.the-variants as input
 
-abbrev pub Within : Input → ℕ → Type 0
-Within (input.Front n) most = n ≤ most
-Within input.Failed most = Unit {0}
+abbrev pub ReadWithin : Input → ℕ → Type 0
+ReadWithin (input.Front n) most = n ≤ most
+ReadWithin input.Failed most = Unit {0}

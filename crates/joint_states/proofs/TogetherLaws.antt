@@ -11,7 +11,7 @@ use Rattle.theory.specs.Query.{Bytes}
 use Rattle.theory.specs.Table.{statesIn, producedIn, setsIn, sizesIn, startIn, successorIn, machineIn, tableRefusal}
 use Rattle.theory.specs.Refusals.{passed}
 use Rattle.theory.proofs.ListLaws.{member-upFrom}
-use Rattle.theory.proofs.MachineLaws.{reached-start, reached-next, Inside}
+use Rattle.theory.proofs.MachineLaws.{reached-start, reached-next, StaysBelow}
 use Rattle.theory.proofs.JointLaws.{both-below}
 use Rattle.theory.proofs.Faithfulness.{table-checked}
 use Rattle.table.specs.Form.{Formed}
@@ -39,11 +39,11 @@ module _ {a b : Bytes} (c : Comparable a b) where
   sizes-same : sizesIn b ≡ sizesIn a
   sizes-same i = record { produced = c .produced i; tested = c .tested i; sets = c .sets i }
 
-  our-inside : Inside (machineIn a) (sizesIn a) (statesIn a)
+  our-inside : StaysBelow (machineIn a) (sizesIn a) (statesIn a)
   our-inside = table-checked a (c .ours) .inside
 
-  their-inside : Inside (machineIn b) (sizesIn a) (statesIn b)
-  their-inside = subst (λ z. Inside (machineIn b) z (statesIn b)) sizes-same (table-checked b (c .theirs) .inside)
+  their-inside : StaysBelow (machineIn b) (sizesIn a) (statesIn b)
+  their-inside = subst (λ z. StaysBelow (machineIn b) z (statesIn b)) sizes-same (table-checked b (c .theirs) .inside)
 
   abbrev pub Joint : ℕ × ℕ → Type 0
   Joint = Reached (both (machineIn a) (machineIn b)) (sizesIn a)

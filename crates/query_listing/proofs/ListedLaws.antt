@@ -31,24 +31,24 @@ module _ (l text : Bytes) {n : ℕ} (e : length l ≡ n) where
 
 -- the same of the whole call: checks 1 to 6, then 9 for scratch, then the listing in the scratch
 module _ (query scratch text : Bytes) where
-  abbrev pub Whole : (scratch' text' : Bytes) → Listed → Type 0
-  Whole scratch' text' r =
+  abbrev pub ListDone : (scratch' text' : Bytes) → Listed → Type 0
+  ListDone scratch' text' r =
       (r ≡ listedAnswer (listing query) (listRefusal query (length scratch) (length text)))
       × ((text' ≡ textAfter (listing query) (listRefusal query (length scratch) (length text)) text) × (scratch' ≡ scratchAfter query scratch))
 
-  pub query-refused : {text' : Bytes} {r : Listed} → queryRefusal query ≢ passed → Handed (listing query) text text' r → Whole scratch text' r
+  pub query-refused : {text' : Bytes} {r : Listed} → queryRefusal query ≢ passed → Handed (listing query) text text' r → ListDone scratch text' r
   unfolding listRefusal scratchAfter
   query-refused h d = let e = ne-eqb (queryRefusal query) passed h in (rw (e, listRefusal) (d .answer), (rw (e, listRefusal) (d .text), rw (e, scratchAfter)))
 
   module _ (c : queryRefusal query ≡ passed) where
-    pub scratch-short : length scratch < scratchLength → {r : Listed} → r ≡ listedAnswer [] space-refused → Whole scratch text r
+    pub scratch-short : length scratch < scratchLength → {r : Listed} → r ≡ listedAnswer [] space-refused → ListDone scratch text r
     unfolding listRefusal textAfter scratchAfter
     scratch-short h a =
         let e = eq-eqb (queryRefusal query) passed c in
         let f = lt-ltb (length scratch) scratchLength h in
         (rw (e, f, listRefusal) a, (rw (e, f, listRefusal), rw (e, lt-leb scratchLength (length scratch) h, scratchAfter)))
 
-    pub scratch-whole : {scratch' text' : Bytes} {r : Listed} → scratchLength ≤ length scratch → Handed (listing query) text text' r → scratch' ≡ zeroed scratchLength scratch → Whole scratch' text' r
+    pub scratch-whole : {scratch' text' : Bytes} {r : Listed} → scratchLength ≤ length scratch → Handed (listing query) text text' r → scratch' ≡ zeroed scratchLength scratch → ListDone scratch' text' r
     unfolding listRefusal scratchAfter
     scratch-whole h d z =
         let e = eq-eqb (queryRefusal query) passed c in

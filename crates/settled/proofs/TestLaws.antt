@@ -20,7 +20,7 @@ use Rattle.theory.proofs.Picks.{pick-yes}
 use Rattle.theory.proofs.BitLaws.{raised-has, raised-keeps, raised-only}
 use Rattle.theory.proofs.RangeLaws.{map-below}
 use Rattle.theory.proofs.SettledLaws.{settled-through, says-settled}
-use Rattle.theory.proofs.CounterexampleLaws.{Past, past-none, past-more, past-both, past-front, past-met, value, row, stop-at, stop-rows}
+use Rattle.theory.proofs.CounterexampleLaws.{Past, past-none, past-more, past-both, past-front, past-met, value, bitRow, stop-at, stop-rows}
 use Rattle.settled.specs.declared.Tested.{Tested}
 use Rattle.settled.specs.declared.Tested.the-variants as tested
 use Rattle.settled.specs.Masks.{StandFor, SettledMask, ClassesOf, Prepared}
@@ -85,7 +85,7 @@ module _ (n : ℕ) (rs : List Rule) (w : List ℕ) (c settled′ class : ℕ) (t
   value-two false true = refl
   value-two false false = refl
 
-  rows-masks : {p o : Order} → Counterexample n rs p o (row n rs w (alike rs c)) (row n rs w (λ d. not (alike rs c d)))
+  rows-masks : {p o : Order} → Counterexample n rs p o (bitRow n rs w (alike rs c)) (bitRow n rs w (λ d. not (alike rs c d)))
       → Counterexample n rs p o (map pos (rowBy true settled′ class n)) (map pos (rowBy false settled′ class n))
   rows-masks {p} {o} =
       subst₂ (Counterexample n rs p o)

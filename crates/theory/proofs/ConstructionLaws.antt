@@ -25,18 +25,18 @@ use Rattle.theory.proofs.RuleLaws.{rules-from, rules-same}
 use Rattle.theory.proofs.ChoiceLaws.{taken-force}
 use Rattle.theory.proofs.HeldLaws.{held-exactly}
 use Rattle.theory.proofs.AnswerLaws.{decides-tree, held-after, answering-reduced}
-use Rattle.theory.proofs.MachineLaws.{numbered-exactly, numbered-distinct, numbered-many, Inside}
+use Rattle.theory.proofs.MachineLaws.{numbered-exactly, numbered-distinct, numbered-many, StaysBelow}
 use Rattle.theory.proofs.JointLaws.{Covers, same-sym, same-trans, covers-reduced}
 use Rattle.theory.proofs.MachineTable.{Limited, Enumerated, table-sized, table-numbered, numbers-cover, numbers-answer}
 use Rattle.theory.proofs.SmallestTable.{smallest, one-table}
 use Rattle.theory.proofs.Faithfulness.{Wide, numbers-tell, faithful-table, table-passes}
 
 -- The states by number, and the number of a state.
-abbrev pub statesOf : (q : Query) → List AnswerTree
-statesOf q = numberedWithin (answersOf q) maxStates (sizesOfQuery q)
+abbrev pub queryStates : (q : Query) → List AnswerTree
+queryStates q = numberedWithin (answersOf q) maxStates (sizesOfQuery q)
 
 abbrev pub stateNumber : (q : Query) → AnswerTree → ℕ
-stateNumber q t = position sameTree t (statesOf q)
+stateNumber q t = position sameTree t (queryStates q)
 
 -- No two states are alike.
 pub states-reduced : (q : Query) → Reduced (sizesOfQuery q) (answersOf q)
@@ -78,7 +78,7 @@ held-wide q t r =
     ap (λ u. length (answersOf q .held u)) (sym (r .arrives)) ∙ answers-wide q (r .order) (r .sets) (r .produced) (r .below) ∙ length-append (q .produced) (q .tested)
 
 -- its states by number
-pub states-known : (q : Query) → length (statesOf q) ≤ maxStates → Enumerated (answersOf q) (sizesOfQuery q) (statesOf q)
+pub states-known : (q : Query) → length (queryStates q) ≤ maxStates → Enumerated (answersOf q) (sizesOfQuery q) (queryStates q)
 states-known q few =
     record {
       decides = decides-tree;
@@ -89,36 +89,36 @@ states-known q few =
 
 -- What is known where constructing gives a table.
 pub record Made (q : Query) (t : Table) : Type 0 where
-  pub few : length (statesOf q) ≤ maxStates
+  pub few : length (queryStates q) ≤ maxStates
   pub table-is : t ≡ queryTable q
 
 pub made : (q : Query) {t : Table} → Constructs q (table t) → Made q t
-made q (its-table m) = record { few = ltb-false maxStates (length (statesOf q)) (false-says (numbered-many (answersOf q) (sizesOfQuery q) decides-tree maxStates) m); table-is = refl }
+made q (its-table m) = record { few = ltb-false maxStates (length (queryStates q)) (false-says (numbered-many (answersOf q) (sizesOfQuery q) decides-tree maxStates) m); table-is = refl }
 
 module _ {q : Query} {t : Table} (limits : Limited (sizesOfQuery q)) (d : Made q t) where
   -- the table is that of the query's machine
-  known : Enumerated (answersOf q) (sizesOfQuery q) (statesOf q)
+  known : Enumerated (answersOf q) (sizesOfQuery q) (queryStates q)
   known = states-known q (d .few)
 
-  by-rows : (P : Table → Type 0) → P (tableOf (answersOf q) (sizesOfQuery q) (statesOf q)) → P t
+  by-rows : (P : Table → Type 0) → P (tableOf (answersOf q) (sizesOfQuery q) (queryStates q)) → P t
   unfolding walkedTable
   by-rows P = subst P (sym (d .table-is))
 
   pub made-sized : Sized t
-  made-sized = by-rows Sized (table-sized (answersOf q) (sizesOfQuery q) (statesOf q) limits known)
+  made-sized = by-rows Sized (table-sized (answersOf q) (sizesOfQuery q) (queryStates q) limits known)
 
   pub made-numbered : Numbered t
-  made-numbered = by-rows Numbered (table-numbered (answersOf q) (sizesOfQuery q) (statesOf q) limits known)
+  made-numbered = by-rows Numbered (table-numbered (answersOf q) (sizesOfQuery q) (queryStates q) limits known)
 
   -- the table's numbers, and its bytes, tell the query's derivation
   pub made-tells : WellFormed q → Tells q (numbersOf t)
-  made-tells formed = by-rows (λ k. Tells q (numbersOf k)) (numbers-tell q (answersOf q) (statesOf q) limits known (answers-tell q formed))
+  made-tells formed = by-rows (λ k. Tells q (numbersOf k)) (numbers-tell q (answersOf q) (queryStates q) limits known (answers-tell q formed))
 
   pub made-faithful : WellFormed q → Faithful q (writeTable t)
-  made-faithful formed = by-rows (λ k. Faithful q (writeTable k)) (faithful-table q (answersOf q) (statesOf q) limits known (answers-tell q formed))
+  made-faithful formed = by-rows (λ k. Faithful q (writeTable k)) (faithful-table q (answersOf q) (queryStates q) limits known (answers-tell q formed))
 
   pub made-passes : tableRefusal (writeTable t) ≡ passed
-  made-passes = by-rows (λ k. tableRefusal (writeTable k) ≡ passed) (table-passes q (answersOf q) (statesOf q) limits known)
+  made-passes = by-rows (λ k. tableRefusal (writeTable k) ≡ passed) (table-passes q (answersOf q) (queryStates q) limits known)
 
   -- the table has the query's sizes
   pub made-sizes : countsOf t ≡ sizesOfQuery q
@@ -130,7 +130,7 @@ module _ {q : Query} {t : Table} (limits : Limited (sizesOfQuery q)) (d : Made q
 
   -- its rows are the numbers of the trees
   pub made-cover : Covers (sizesOfQuery q) (answersOf q) (numbersOf t) (stateNumber q)
-  made-cover = by-rows (λ k. Covers (sizesOfQuery q) (answersOf q) (numbersOf k) (stateNumber q)) (numbers-cover (answersOf q) (sizesOfQuery q) (statesOf q) limits known)
+  made-cover = by-rows (λ k. Covers (sizesOfQuery q) (answersOf q) (numbersOf k) (stateNumber q)) (numbers-cover (answersOf q) (sizesOfQuery q) (queryStates q) limits known)
 
   -- No two of its rows that are reached are alike.
   pub made-reduced : Reduced (sizesOfQuery q) (numbersOf t)
@@ -139,21 +139,21 @@ module _ {q : Query} {t : Table} (limits : Limited (sizesOfQuery q)) (d : Made q
   answers : SameAnswers (sizesOfQuery q) (answersOf q) (numbersOf t)
   answers =
       by-rows (λ k. SameAnswers (sizesOfQuery q) (answersOf q) (numbersOf k))
-      (same-sym (sizesOfQuery q) (numbersOf (tableOf (answersOf q) (sizesOfQuery q) (statesOf q))) (answersOf q) (numbers-answer (answersOf q) (sizesOfQuery q) (statesOf q) limits known))
+      (same-sym (sizesOfQuery q) (numbersOf (tableOf (answersOf q) (sizesOfQuery q) (queryStates q))) (answersOf q) (numbers-answer (answersOf q) (sizesOfQuery q) (queryStates q) limits known))
 
   -- after every run its numbers say of each interesting order whether it is held
   pub made-wide : Wide q (numbersOf t)
   made-wide p ss h b = ap length (sym (answers p ss h b)) ∙ answers-wide q p ss h b
 
-  pub made-count : t .stateCount ≡ length (statesOf q)
+  pub made-count : t .stateCount ≡ length (queryStates q)
   unfolding tableOf
-  made-count = by-rows (λ k. k .stateCount ≡ length (statesOf q)) refl
+  made-count = by-rows (λ k. k .stateCount ≡ length (queryStates q)) refl
 
   -- No machine of fewer states has the same answers, ..
-  pub made-smallest : (k : Machine ℕ) (b : ℕ) → Inside k (sizesOfQuery q) b → SameAnswers (sizesOfQuery q) (numbersOf t) k → t .stateCount ≤ b
+  pub made-smallest : (k : Machine ℕ) (b : ℕ) → StaysBelow k (sizesOfQuery q) b → SameAnswers (sizesOfQuery q) (numbersOf t) k → t .stateCount ≤ b
   made-smallest k b inside same =
       subst (λ n. n ≤ b) (sym made-count)
-      (smallest (sizesOfQuery q) (answersOf q) (states-reduced q) k b inside (same-trans (sizesOfQuery q) (answersOf q) (numbersOf t) k answers same) (statesOf q)
+      (smallest (sizesOfQuery q) (answersOf q) (states-reduced q) k b inside (same-trans (sizesOfQuery q) (answersOf q) (numbersOf t) k answers same) (queryStates q)
       (numbered-distinct (answersOf q) (sizesOfQuery q) decides-tree maxStates) (λ x i. known .exactly x .0 i))
 
   -- .. and every reduced machine with the same answers has this table.

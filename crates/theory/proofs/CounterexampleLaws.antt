@@ -182,33 +182,33 @@ two-stand x y o f i (suc (suc j)) l h b = let z : ⊥ = omega arith in absurd z
 
 module _ (n : ℕ) (rs : List Rule) (w : List ℕ) where
   -- the row of n columns that is 0 in each column that w settles, elsewhere 1 where the test passes
-  abbrev pub row : (ℕ → Bool) → Row
-  row test = map (λ d. value (settled rs w d) (test d)) (upFrom 0 n)
+  abbrev pub bitRow : (ℕ → Bool) → Row
+  bitRow test = map (λ d. value (settled rs w d) (test d)) (upFrom 0 n)
 
-  row-values : (test : ℕ → Bool) (v : ℤ) → List·Memᴰ v (row test) → (v ≡ pos 0) ⊎ (v ≡ pos 1)
+  row-values : (test : ℕ → Bool) (v : ℤ) → List·Memᴰ v (bitRow test) → (v ≡ pos 0) ⊎ (v ≡ pos 1)
   row-values test v m =
       let t = Memᴰ·of-map (λ d. value (settled rs w d) (test d)) (upFrom 0 n) m in
       ⊎-elim (λ e. inl (sym (t .2) ∙ e)) (λ e. inr (sym (t .2) ∙ e)) (value-bit (settled rs w (t .0)) (test (t .0)))
 
-  row-cell : (test : ℕ → Bool) (d : ℕ) → d < n → cell (row test) d ≡ value (settled rs w d) (test d)
+  row-cell : (test : ℕ → Bool) (d : ℕ) → d < n → cell (bitRow test) d ≡ value (settled rs w d) (test d)
   row-cell test d l = entry-of (λ d. value (settled rs w d) (test d)) n d (pos 0) l
 
   -- all such rows are alike in the settled columns
-  rows-agree : (s t : ℕ → Bool) → Agree rs w (row s) (row t)
+  rows-agree : (s t : ℕ → Bool) → Agree rs w (bitRow s) (bitRow t)
   rows-agree s t d h = go (says-ltb d n)
     where
       zero-value : (test : ℕ → Bool) → value (settled rs w d) (test d) ≡ pos 0
       zero-value test = rw (true-says (says-settled rs w d) h)
 
-      past-end : (test : ℕ → Bool) → ¬ d < n → cell (row test) d ≡ pos 0
-      past-end test f = List·getD-eq-default (row test) (pos 0) (rw (entry-count (λ c. value (settled rs w c) (test c)) 0 n) (omega arith))
+      past-end : (test : ℕ → Bool) → ¬ d < n → cell (bitRow test) d ≡ pos 0
+      past-end test f = List·getD-eq-default (bitRow test) (pos 0) (rw (entry-count (λ c. value (settled rs w c) (test c)) 0 n) (omega arith))
 
-      go : {b : Bool} → Says (d < n) b → cell (row s) d ≡ cell (row t) d
+      go : {b : Bool} → Says (d < n) b → cell (bitRow s) d ≡ cell (bitRow t) d
       go (holds l) = (row-cell s d l ∙ zero-value s) ∙ sym (row-cell t d l ∙ zero-value t)
       go (fails f) = past-end s f ∙ sym (past-end t f)
 
   -- an unsettled column has the test's bit
-  row-open : (test : ℕ → Bool) (d : ℕ) → d < n → ¬ Settled rs w d → cell (row test) d ≡ pick (test d) (pos 1) (pos 0)
+  row-open : (test : ℕ → Bool) (d : ℕ) → d < n → ¬ Settled rs w d → cell (bitRow test) d ≡ pick (test d) (pos 1) (pos 0)
   row-open test d l f = rw (row-cell test d l, false-says (says-settled rs w d) f)
 
 -- the tests on columns say the same of two equal ones
@@ -222,7 +222,7 @@ bits-differ false e = <ℤ-irrefl (subst (λ k. k <ℤ pos 1) e (ltZ-yes tt))
 
 -- Two such rows with opposite bits are alike in the settled columns alone; so they obey the rules where the test says the same of equal columns.
 module _ (n : ℕ) (rs : List Rule) (w : List ℕ) (test : ℕ → Bool) (small : RulesBelow n rs) (same : (a b : ℕ) → List·Memᴰ (equal a b) rs → test a ≡ test b) where
-  alike-settles : (d : ℕ) → d < n → cell (row n rs w test) d ≡ cell (row n rs w (λ c. not (test c))) d → Settled rs w d
+  alike-settles : (d : ℕ) → d < n → cell (bitRow n rs w test) d ≡ cell (bitRow n rs w (λ c. not (test c))) d → Settled rs w d
   alike-settles d l e = go (says-settled rs w d)
     where
       go : {b : Bool} → Says (Settled rs w d) b → Settled rs w d
@@ -230,27 +230,27 @@ module _ (n : ℕ) (rs : List Rule) (w : List ℕ) (test : ℕ → Bool) (small 
       go (fails f) = absurd (bits-differ (test d) (sym (row-open n rs w test d l f) ∙ e ∙ row-open n rs w (λ c. not (test c)) d l f))
 
   -- each row has one value in two equal columns
-  row-equal : (bits : Bool → Bool) {a b : ℕ} → List·Memᴰ (equal a b) rs → cell (row n rs w (λ d. bits (test d))) a ≡ cell (row n rs w (λ d. bits (test d))) b
+  row-equal : (bits : Bool → Bool) {a b : ℕ} → List·Memᴰ (equal a b) rs → cell (bitRow n rs w (λ d. bits (test d))) a ≡ cell (bitRow n rs w (λ d. bits (test d))) b
   row-equal bits {a} {b} m =
       row-cell n rs w (λ d. bits (test d)) a (small (equal a b) m a (List·Memᴰ·head refl))
       ∙ ap₂ value (equal-settled w m) (ap bits (same a b m))
       ∙ sym (row-cell n rs w (λ d. bits (test d)) b (small (equal a b) m b (List·Memᴰ·tail (List·Memᴰ·head refl))))
 
-  opposite-obey : ObeysAll rs (row n rs w test ∷ row n rs w (λ d. not (test d)) ∷ [])
+  opposite-obey : ObeysAll rs (bitRow n rs w test ∷ bitRow n rs w (λ d. not (test d)) ∷ [])
   opposite-obey (equal a b) m = all-two (λ x. cell x a ≡ cell x b) (row-equal (λ t. t) m) (row-equal not m)
   opposite-obey (fix l r) m = λ x y i j.
-      all-two (λ u. Fixed u y) (all-two (Fixed (row n rs w test)) (λ h. refl) (λ h. alone h) y j)
-      (all-two (Fixed (row n rs w (λ d. not (test d)))) (λ h. sym (alone (λ c k. sym (h c k)))) (λ h. refl) y j) x i
+      all-two (λ u. Fixed u y) (all-two (Fixed (bitRow n rs w test)) (λ h. refl) (λ h. alone h) y j)
+      (all-two (Fixed (bitRow n rs w (λ d. not (test d)))) (λ h. sym (alone (λ c k. sym (h c k)))) (λ h. refl) y j) x i
     where
       Fixed : Row → Row → Type 0
       Fixed x y = ((c : ℕ) → List·Memᴰ c l → cell x c ≡ cell y c) → cell x r ≡ cell y r
 
-      alone : Fixed (row n rs w test) (row n rs w (λ d. not (test d)))
+      alone : Fixed (bitRow n rs w test) (bitRow n rs w (λ d. not (test d)))
       alone h = rows-agree n rs w test (λ d. not (test d)) r (fixed m (λ c k. alike-settles c (small (fix l r) m c (List·Memᴰ·tail k)) (h c k)))
 
 -- where the test stops, the rows with the bits of the entry's class and their opposites
 pub stop-rows : (n : ℕ) (rs : List Rule) (p o : Order) → ((c : ℕ) → List·Memᴰ c (columns p) → c < n) → ((c : ℕ) → List·Memᴰ c (columns o) → c < n)
-    → RulesBelow n rs → (w : List ℕ) (c : ℕ) → Stop rs w c p o → Counterexample n rs p o (row n rs w (alike rs c)) (row n rs w (λ d. not (alike rs c d)))
+    → RulesBelow n rs → (w : List ℕ) (c : ℕ) → Stop rs w c p o → Counterexample n rs p o (bitRow n rs w (alike rs c)) (bitRow n rs w (λ d. not (alike rs c d)))
 stop-rows n rs p o pn on small w c s =
     record {
       one-width = entry-count (λ d. value (settled rs w d) (class d)) 0 n;
@@ -266,10 +266,10 @@ stop-rows n rs p o pn on small w c s =
     class d = alike rs c d
 
     one : Row
-    one = row n rs w class
+    one = bitRow n rs w class
 
     two : Row
-    two = row n rs w (λ d. not (class d))
+    two = bitRow n rs w (λ d. not (class d))
 
     agree : Agree rs w two one
     agree = rows-agree n rs w (λ d. not (class d)) class

@@ -21,7 +21,7 @@ use Rattle.theory.specs.Table.{Table, Sized, Numbered, tableOf, numbersO
 use Rattle.theory.specs.Lookups.{Tells, Faithful}
 use Rattle.theory.proofs.Reflect.{says-one}
 use Rattle.theory.proofs.RefusalLaws.{or-passed, first-passed, refused-then, refused-else, neither}
-use Rattle.theory.proofs.MachineLaws.{Inside}
+use Rattle.theory.proofs.MachineLaws.{StaysBelow}
 use Rattle.theory.proofs.JointLaws.{same-sym}
 use Rattle.theory.proofs.TableLaws.{written-check}
 use Rattle.theory.proofs.MachineTable.{Limited, Enumerated, table-sized, table-numbered, numbers-answer, bytes-answer}
@@ -40,7 +40,7 @@ successor-byte t state s h =
 pub record Checked (t : Bytes) : Type 0 where
   pub form : formRefusal t ≡ passed
   pub few : statesIn t ≤ maxStates
-  pub inside : Inside (machineIn t) (sizesIn t) (statesIn t)
+  pub inside : StaysBelow (machineIn t) (sizesIn t) (statesIn t)
   pub words : (state : ℕ) → state < statesIn t → heldRefusal t state ≡ passed
 
 few-states : (t : Bytes) → formRefusal t ≡ passed → statesIn t ≤ maxStates

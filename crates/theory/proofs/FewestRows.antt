@@ -19,17 +19,17 @@ use Rattle.theory.specs.Table.{tableOf, numbersOf, machineIn, statesIn, 
 use Rattle.theory.specs.Build.{too-many, construct, Constructs, many-states, built, outcome}
 use Rattle.theory.specs.Lookups.{Tells, Faithful}
 use Rattle.theory.specs.Verification.{verifyRefusal}
-use Rattle.theory.proofs.MachineLaws.{Inside}
+use Rattle.theory.proofs.MachineLaws.{StaysBelow}
 use Rattle.theory.proofs.PositionLaws.{position-bound, position-reads}
 use Rattle.theory.proofs.JointLaws.{Covers, covers-after, covers-reduced}
 use Rattle.theory.proofs.MachineTable.{Limited, bytes-cover}
 use Rattle.theory.proofs.ReadLaws.{query-formed}
 use Rattle.theory.proofs.Faithfulness.{table-checked, Wide, tells-same}
 use Rattle.theory.proofs.AnswerLaws.{decides-tree}
-use Rattle.theory.proofs.ConstructionLaws.{statesOf, stateNumber, states-reduced, answers-tell, answers-wide, states-known, made-sized, made-numbered, made-tells, made-sizes, made-cover, made-reduced, made-wide, made-count, made-smallest, made-only}
+use Rattle.theory.proofs.ConstructionLaws.{queryStates, stateNumber, states-reduced, answers-tell, answers-wide, states-known, made-sized, made-numbered, made-tells, made-sizes, made-cover, made-reduced, made-wide, made-count, made-smallest, made-only}
 use Rattle.theory.proofs.SmallestTable.{smallest}
 use Rattle.theory.proofs.BuildLaws.{construct-means}
-use Rattle.theory.proofs.StatePairs.{stateOf, has-state, share-same, same-share}
+use Rattle.theory.proofs.StatePairs.{pairState, has-state, share-same, same-share}
 use Rattle.theory.proofs.DemandThree.{Built, query-limited, built-facts}
 use Rattle.theory.proofs.VerificationLaws.{sizes-are, their-width, faithful-same}
 use Rattle.theory.proofs.SuppliedTables.{faithful-sizes, accepted-facts}
@@ -49,7 +49,7 @@ module _ {query t : Bytes} (b : Built query t) where
   rows-written = ap statesIn (b .bytes-are)
 
   -- What is written has a row for each state.
-  pub built-count : statesIn t ≡ length (statesOf q)
+  pub built-count : statesIn t ≡ length (queryStates q)
   built-count = rows-written ∙ made-count limits (b .made)
 
   -- the bytes say the table's numbers
@@ -73,18 +73,18 @@ module _ {query t : Bytes} (b : Built query t) where
   abbrev rowOf : Pair q → ℕ
   rowOf x = runs (machineIn t) (machineIn t .start (x .order)) (x .sets)
 
-  reads : (x : Pair q) (d : AnswerTree) → getD (statesOf q) (stateNumber q (stateOf q formed x)) d ≡ stateOf q formed x
+  reads : (x : Pair q) (d : AnswerTree) → getD (queryStates q) (stateNumber q (pairState q formed x)) d ≡ pairState q formed x
   reads x d =
-      position-reads decides-tree (stateOf q formed x) d (statesOf q)
-      (position-bound decides-tree (stateOf q formed x) (statesOf q) (states-known q (b .made .few) .exactly (stateOf q formed x) .1 (has-state q formed x)))
+      position-reads decides-tree (pairState q formed x) d (queryStates q)
+      (position-bound decides-tree (pairState q formed x) (queryStates q) (states-known q (b .made .few) .exactly (pairState q formed x) .1 (has-state q formed x)))
 
   -- Two pairs share a row exactly when no order lookup after any run of sets tells them apart.
   pub rows-share : (x y : Pair q) → (rowOf x ≡ rowOf y) ↔ ShareRow q x y
   rows-share x y =
       let rowX = row-after (x .order) (x .sets) (x .produced) (x .below) in
       let rowY = row-after (y .order) (y .sets) (y .produced) (y .below) in
-      let d = stateOf q formed x in (
-        λ e. same-share q formed x y (sym (reads x d) ∙ ap (λ n. getD (statesOf q) n d) (sym rowX ∙ e ∙ rowY) ∙ reads y d),
+      let d = pairState q formed x in (
+        λ e. same-share q formed x y (sym (reads x d) ∙ ap (λ n. getD (queryStates q) n d) (sym rowX ∙ e ∙ rowY) ∙ reads y d),
         λ s. rowX ∙ ap (stateNumber q) (share-same q formed x y s) ∙ sym rowY,
       )
 
@@ -106,7 +106,7 @@ eight-none q formed e t passes f =
     let c = table-checked t passes in
     let m = many (subst (Constructs q) e (construct-means q)) in
     let least =
-    smallest (sizesOfQuery q) (answersOf q) (states-reduced q) (machineIn t) (statesIn t) (subst (λ z. Inside (machineIn t) z (statesIn t)) (sizes-are q t sizes) (c .inside))
+    smallest (sizesOfQuery q) (answersOf q) (states-reduced q) (machineIn t) (statesIn t) (subst (λ z. StaysBelow (machineIn t) z (statesIn t)) (sizes-are q t sizes) (c .inside))
     (tells-same q (answersOf q) (machineIn t) (answers-wide q) (λ p ss h b. their-width q t sizes _) (answers-tell q formed) (f .tells))
     (m .things) (m .different) (m .each) in
     let h = m .many in
@@ -123,5 +123,5 @@ fewest-rows query t u scratch output e v =
     let sizes = faithful-sizes (a .faithful) in
     subst (λ k. k ≤ statesIn u) (sym (rows-written b))
     (made-smallest (limits b) (b .made) (machineIn u) (statesIn u)
-    (subst (λ z. Inside (machineIn u) z (statesIn u)) (sizes-are (readQuery query) u sizes) (table-checked u (a .passes) .inside))
+    (subst (λ z. StaysBelow (machineIn u) z (statesIn u)) (sizes-are (readQuery query) u sizes) (table-checked u (a .passes) .inside))
     (faithful-same (formed b) (limits b) (b .made) u (a .passes) sizes (a .faithful)))

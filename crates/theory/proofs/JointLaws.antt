@@ -12,7 +12,7 @@ use Rattle.theory.specs.Machine.{Sizes, Machine, AllBelow, runs, Reached
 use Rattle.theory.proofs.Reflect.{says-false, says-as, says-and, says-every, decides-list, decides-bool}
 use Rattle.theory.proofs.ListLaws.{upFrom-member}
 use Rattle.theory.proofs.RangeLaws.{entry-count}
-use Rattle.theory.proofs.MachineLaws.{below-tail, reached-start, reached-next, reached-runs, numbered-exactly, numbered-few, Inside, inside-after}
+use Rattle.theory.proofs.MachineLaws.{below-tail, reached-start, reached-next, reached-runs, numbered-exactly, numbered-few, StaysBelow, inside-after}
 
 module _ {X Y : Type 0} (z : Sizes) (m : Machine X) (k : Machine Y) where
   pub same-sym : SameAnswers z m k → SameAnswers z k m
@@ -139,7 +139,7 @@ module _ {X Y : Type 0} (m : Machine X) (k : Machine Y) where
           }
 
 -- two machines whose states are numbers: those of a reached joint state stay below, and of at most 128 states each there are no more than 16,384 joint states
-module _ {m k : Machine ℕ} {z : Sizes} {a b : ℕ} (i : Inside m z a) (j : Inside k z b) where
+module _ {m k : Machine ℕ} {z : Sizes} {a b : ℕ} (i : StaysBelow m z a) (j : StaysBelow k z b) where
   pub both-below : (x : ℕ × ℕ) → Reached (both m k) z x → (x .0 < a) × (x .1 < b)
   both-below x r =
       subst (λ w. (w .0 < a) × (w .1 < b)) (arrives-both m k z x r)

@@ -19,7 +19,7 @@ use Rattle.theory.specs.Lookups.{Lookup, entry, taking, asking, run, Ans
 use Rattle.theory.proofs.Reflect.{says-true, says-ltb}
 use Rattle.theory.proofs.RowLaws.{bit-tested}
 use Rattle.theory.proofs.ChoiceNumbers.{bits-entry}
-use Rattle.theory.proofs.MachineLaws.{below-nil, below-snoc, runs-snoc, Inside, inside-after}
+use Rattle.theory.proofs.MachineLaws.{below-nil, below-snoc, runs-snoc, StaysBelow, inside-after}
 
 -- a number is below a bound, written in two ways, or it is not
 below-or-not : {C : Type 0} (m : ℕ) {n k : ℕ} → n ≡ k → (m < n → m < k → C) → (n ≤ m → k ≤ m → C) → C
@@ -76,7 +76,7 @@ module _ {q : Query} {t : Bytes} (f : Faithful q t) where
   interesting-size = rw (length-append, f .produced-size, f .tested-size)
 
   -- taking sets leads from a state to a state
-  stays : Inside (machineIn t) (sizesIn t) (statesIn t)
+  stays : StaysBelow (machineIn t) (sizesIn t) (statesIn t)
   stays = record { start-below = f .start-below; next-below = f .successor-below }
 
   -- the state from the start of a produced order through the sets

@@ -105,11 +105,11 @@ module _ {X : Type 0} (m : Machine X) where
       numbered-few xs h w = numbering-few decides moves cap starts xs h (λ x f. w x (found-reached x f))
 
 -- A machine whose states are numbers stays below n.
-pub record Inside (m : Machine ℕ) (z : Sizes) (n : ℕ) : Type 0 where
+pub record StaysBelow (m : Machine ℕ) (z : Sizes) (n : ℕ) : Type 0 where
   pub start-below : (p : ℕ) → p < z .produced → m .start p < n
   pub next-below : (x s : ℕ) → x < n → s < z .sets → m .next x s < n
 
-module _ {m : Machine ℕ} {z : Sizes} {n : ℕ} (i : Inside m z n) where
+module _ {m : Machine ℕ} {z : Sizes} {n : ℕ} (i : StaysBelow m z n) where
   pub inside-runs : (ss : List ℕ) → AllBelow (z .sets) ss → (x : ℕ) → x < n → runs m x ss < n
   inside-runs [] b x h = h
   inside-runs (s ∷ ss) b x h = inside-runs ss (below-tail (z .sets) b) (m .next x s) (i .next-below x s h (b s (List·Memᴰ·head refl)))

@@ -13,7 +13,7 @@ use Rattle.theory.proofs.PositionLaws.{position-bound, position-reads}
 use Rattle.theory.proofs.ListLaws.{member-getD, member-upFrom}
 use Rattle.theory.proofs.RowLaws.{getD-map}
 use Rattle.theory.proofs.RangeLaws.{entry-of, entry-count}
-use Rattle.theory.proofs.MachineLaws.{reached-start, reached-next, Inside, reached-inside}
+use Rattle.theory.proofs.MachineLaws.{reached-start, reached-next, StaysBelow, reached-inside}
 use Rattle.theory.proofs.JointLaws.{same-sym, Covers, covers-same}
 use Rattle.theory.proofs.TableLaws.{written-start, written-successor, held-back}
 
@@ -119,7 +119,7 @@ module _ {X : Type 0} (m : Machine X) (z : Sizes) (xs : List X) where
 
 module _ (t : Table) (sized : Sized t) (closed : Numbered t) where
   -- the table's numbers stay below the count of states
-  pub numbers-inside : Inside (numbersOf t) (countsOf t) (t .stateCount)
+  pub numbers-inside : StaysBelow (numbersOf t) (countsOf t) (t .stateCount)
   numbers-inside =
       record {
         start-below = λ p h. closed .starts-below (getD (t .starts) p 0) (member-getD (t .starts) p 0 (subst (λ n. p < n) (sym (sized .starts-count)) h));

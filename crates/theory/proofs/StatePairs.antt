@@ -20,53 +20,53 @@ use Rattle.theory.proofs.ConstructionLaws.{states-reduced, held-wide, a
 
 module _ (q : Query) (formed : WellFormed q) where
   -- the state of a pair
-  abbrev pub stateOf : Pair q → AnswerTree
-  stateOf x = runs (answersOf q) (answersOf q .start (x .order)) (x .sets)
+  abbrev pub pairState : Pair q → AnswerTree
+  pairState x = runs (answersOf q) (answersOf q .start (x .order)) (x .sets)
 
-  pub has-state : (x : Pair q) → State q (stateOf x)
+  pub has-state : (x : Pair q) → State q (pairState x)
   has-state x = record { order = x .order; produced = x .produced; sets = x .sets; below = x .below; arrives = refl }
 
   -- with further sets it holds what is derived with them
   says-after : (x : Pair q) (ss : List ℕ) → AllBelow (q .sets) ss → (i : ℕ) → i < length (interesting q) →
-      Says (After q (getD (q .produced) (x .order) []) (x .sets ++ ss) (getD (interesting q) i [])) (getD (answersOf q .held (runs (answersOf q) (stateOf x) ss)) i false)
+      Says (After q (getD (q .produced) (x .order) []) (x .sets ++ ss) (getD (interesting q) i [])) (getD (answersOf q .held (runs (answersOf q) (pairState x) ss)) i false)
   says-after x ss b i l =
       subst (λ t. Says (After q (getD (q .produced) (x .order) []) (x .sets ++ ss) (getD (interesting q) i [])) (getD (answersOf q .held t) i false))
       (runs-append (answersOf q) (answersOf q .start (x .order)) (x .sets) ss)
       (answers-tell q formed (x .order) i (x .sets ++ ss) (x .produced) (λ s m. ⊎-elim (x .below s) (b s) (List·Memᴰ·append-cases (x .sets) m)) l)
 
-  width : (x : Pair q) (ss : List ℕ) → AllBelow (q .sets) ss → length (answersOf q .held (runs (answersOf q) (stateOf x) ss)) ≡ length (interesting q)
-  width x ss b = held-wide q _ (reached-runs (answersOf q) (sizesOfQuery q) ss b (stateOf x) (has-state x)) ∙ sym (length-append (q .produced) (q .tested))
+  width : (x : Pair q) (ss : List ℕ) → AllBelow (q .sets) ss → length (answersOf q .held (runs (answersOf q) (pairState x) ss)) ≡ length (interesting q)
+  width x ss b = held-wide q _ (reached-runs (answersOf q) (sizesOfQuery q) ss b (pairState x) (has-state x)) ∙ sym (length-append (q .produced) (q .tested))
 
   -- Two pairs share a row exactly when their states are one.
-  pub share-same : (x y : Pair q) → ShareRow q x y → stateOf x ≡ stateOf y
+  pub share-same : (x y : Pair q) → ShareRow q x y → pairState x ≡ pairState y
   share-same x y share =
-      states-reduced q (stateOf x) (stateOf y) (has-state x) (has-state y)
+      states-reduced q (pairState x) (pairState y) (has-state x) (has-state y)
       (λ ss b.
       ext-getD false _ _ (width x ss b ∙ sym (width y ss b))
       (λ i h.
       let l = subst (λ n. i < n) (width x ss b) h in
       says-one (says-as (share ss b i l .0) (share ss b i l .1) (says-after x ss b i l)) (says-after y ss b i l)))
 
-  pub same-share : (x y : Pair q) → stateOf x ≡ stateOf y → ShareRow q x y
+  pub same-share : (x y : Pair q) → pairState x ≡ pairState y → ShareRow q x y
   same-share x y e ss b i l =
       let bits = ap (λ t. getD (answersOf q .held (runs (answersOf q) t ss)) i false) e in (
         λ a. says-true (says-after y ss b i l) (sym bits ∙ true-says (says-after x ss b i l) a),
         λ a. says-true (says-after x ss b i l) (bits ∙ true-says (says-after y ss b i l) a),
       )
 
-  pairs-distinct : (xs : List (Pair q)) → Apart (ShareRow q) xs → Distinct (map stateOf xs)
+  pairs-distinct : (xs : List (Pair q)) → Apart (ShareRow q) xs → Distinct (map pairState xs)
   pairs-distinct [] nothing = empty
   pairs-distinct (x ∷ xs) (further n a) =
-      also (λ i. let t = Memᴰ·of-map stateOf xs i in n (t .0) (t .1) (same-share x (t .0) (sym (t .2)))) (pairs-distinct xs a)
+      also (λ i. let t = Memᴰ·of-map pairState xs i in n (t .0) (t .1) (same-share x (t .0) (sym (t .2)))) (pairs-distinct xs a)
 
   record Pairs (xs : List (AnswerTree)) : Type 0 where
     pairs : List (Pair q)
     count : length pairs ≡ length xs
     apart : Apart (ShareRow q) pairs
-    within : (x : Pair q) → List·Memᴰ x pairs → List·Memᴰ (stateOf x) xs
+    within : (x : Pair q) → List·Memᴰ x pairs → List·Memᴰ (pairState x) xs
 
   -- the pair that leads to a state
-  pairOf : (x : AnswerTree) → State q x → (p : Pair q) × (stateOf p ≡ x)
+  pairOf : (x : AnswerTree) → State q x → (p : Pair q) × (pairState p ≡ x)
   pairOf x r = (
     record { order = r .order; produced = r .produced; sets = r .sets; below = r .below },
     r .arrives,
@@ -91,9 +91,9 @@ module _ (q : Query) (formed : WellFormed q) where
     λ m.
         let h = m .many in
         record {
-          things = map stateOf (m .pairs);
+          things = map pairState (m .pairs);
           different = pairs-distinct (m .pairs) (m .apart);
-          many = omega (arith, length-map (m .pairs) stateOf);
-          each = λ x i. let t = Memᴰ·of-map stateOf (m .pairs) i in subst (State q) (t .2) (has-state (t .0));
+          many = omega (arith, length-map (m .pairs) pairState);
+          each = λ x i. let t = Memᴰ·of-map pairState (m .pairs) i in subst (State q) (t .2) (has-state (t .0));
         },
   )

@@ -61,22 +61,22 @@ module _ (query : Bytes) (produced sets order : ℕ) where
   goal = lookedFor q order
 
   -- Whether the order is derived, whether it is true of all rows that stand in the produced order and obey the sets in force, and whether two rows of 0 and 1 break it.
-  abbrev pub Told : Bool → Type 0
-  Told held = Exact (q .columns) (rulesChosen q sets) start goal held
+  abbrev pub ToldExactly : Bool → Type 0
+  ToldExactly held = Exact (q .columns) (rulesChosen q sets) start goal held
 
   -- where no check refuses, the closure test tells all three
-  pub askable-exactly : {rows : Bytes} → Askable query produced sets order rows → Told (isHeld (rulesChosen q sets) start goal)
+  pub askable-exactly : {rows : Bytes} → Askable query produced sets order rows → ToldExactly (isHeld (rulesChosen q sets) start goal)
   askable-exactly k =
       query-exactly q (query-formed query (k .checked)) start goal (setsOf (q .sets) sets) (member-getD (q .produced) produced [] (k .named .entered))
       (member-getD (interesting q) order [] (k .named .looked-for))
 
   -- An answer that is no refusal tells all three: none says yes, yes and no, and two rows says no, no and yes.
-  pub shows-exactly : {rows : Bytes} {a : Answer} {after : Bytes} → Shows query produced sets order rows a after → a .refusal ≡ passed → Told (eqb (a .value) 0)
+  pub shows-exactly : {rows : Bytes} {a : Answer} {after : Bytes} → Shows query produced sets order rows a after → a .refusal ≡ passed → ToldExactly (eqb (a .value) 0)
   shows-exactly (query-refused f) e = absurd (f e)
   shows-exactly (not-named c f) e = let z : ⊥ = omega arith in absurd z
   shows-exactly (rows-short c n l) e = let z : ⊥ = omega arith in absurd z
-  shows-exactly (none k d) e = let x = askable-exactly k in subst Told (true-says (x .derived) d) x
-  shows-exactly (two-rows k d one two b) e = let x = askable-exactly k in subst Told (false-says (x .derived) d) x
+  shows-exactly (none k d) e = let x = askable-exactly k in subst ToldExactly (true-says (x .derived) d) x
+  shows-exactly (two-rows k d one two b) e = let x = askable-exactly k in subst ToldExactly (false-says (x .derived) d) x
 
   -- After the same sets, in any order and however often, what says whether the order is derived says so exactly where the answer is none.
   pub none-held : {rows : Bytes} {a : Answer} {after : Bytes} → Shows query produced sets order rows a after → a .refusal ≡ passed

@@ -20,7 +20,7 @@ use Rattle.theory.specs.Verification.{SameSizes, sameSizes, mismatchRefu
 use Rattle.theory.proofs.Reflect.{says-one, says-true, says-as, says-and, says-eqb, says-ltb, decides-number, decides-bool}
 use Rattle.theory.proofs.ChoiceNumbers.{bits-length}
 use Rattle.theory.proofs.ReadLaws.{query-formed}
-use Rattle.theory.proofs.MachineLaws.{Inside}
+use Rattle.theory.proofs.MachineLaws.{StaysBelow}
 use Rattle.theory.proofs.JointLaws.{agree-says, agree-parts, joint-few}
 use Rattle.theory.proofs.MachineTable.{Limited, numbers-inside}
 use Rattle.theory.proofs.Faithfulness.{table-checked, passed-faithful, tells-same, same-tells}
@@ -57,11 +57,11 @@ their-width q t sizes state =
 
 -- a query's own table beside a table that passes the table check and has the query's sizes
 module _ {q : Query} {ours : Table} (formed : WellFormed q) (limits : Limited (sizesOfQuery q)) (d : Made q ours) (t : Bytes) (passes : tableRefusal t ≡ passed) (sizes : SameSizes q t) where
-  our-states : Inside (numbersOf ours) (sizesOfQuery q) (ours .stateCount)
-  our-states = subst (λ z. Inside (numbersOf ours) z (ours .stateCount)) (made-sizes limits d) (numbers-inside ours (made-sized limits d) (made-numbered limits d))
+  our-states : StaysBelow (numbersOf ours) (sizesOfQuery q) (ours .stateCount)
+  our-states = subst (λ z. StaysBelow (numbersOf ours) z (ours .stateCount)) (made-sizes limits d) (numbers-inside ours (made-sized limits d) (made-numbered limits d))
 
-  their-states : Inside (machineIn t) (sizesOfQuery q) (statesIn t)
-  their-states = subst (λ z. Inside (machineIn t) z (statesIn t)) (sizes-are q t sizes) (table-checked t passes .inside)
+  their-states : StaysBelow (machineIn t) (sizesOfQuery q) (statesIn t)
+  their-states = subst (λ z. StaysBelow (machineIn t) z (statesIn t)) (sizes-are q t sizes) (table-checked t passes .inside)
 
   -- The table is faithful exactly when it answers as the query's own does.
   pub same-faithful : SameAnswers (sizesOfQuery q) (numbersOf ours) (machineIn t) → Faithful q t

@@ -8,7 +8,7 @@ use Rattle.theory.proofs.RangeLaws.{entry-count}
 use Rattle.byte_rows.specs.Placed.{placed}
 use Rattle.byte_rows.proofs.PlacedLaws.{placed-more}
 use Rattle.settled.specs.Ends.{rowBy}
-use Rattle.counterexample.proofs.WriteLaws.{valueOf}
+use Rattle.counterexample.proofs.WriteLaws.{writtenValue}
 use Rattle.counterexample.proofs.rows.write.Statement.{statement}
 use Rattle.counterexample.proofs.rows.write.Tie as tie
 
@@ -32,7 +32,7 @@ returns c =
     let a = f .before .before .before .args in
     w .write-row2 .ensures
     ∙ ap (placed _ (rowBy false (a .settled) (a .class) (a .n))) (f .write-row .ensures)
-    ∙ placed-more 0 _ (rowBy true (a .settled) (a .class) (a .n)) (rowBy false (a .settled) (a .class) (a .n)) (now (a .rows)) (omega (arith, entry-count (valueOf true (a .settled) (a .class)) 0 (a .n))) (omega arith)
+    ∙ placed-more 0 _ (rowBy true (a .settled) (a .class) (a .n)) (rowBy false (a .settled) (a .class) (a .n)) (now (a .rows)) (omega (arith, entry-count (writtenValue true (a .settled) (a .class)) 0 (a .n))) (omega arith)
 
 pub write-spec : {M : Type 1} → statement M
 write-spec = tie.close (tie.spec write-row-requires write-row-requires-2 same-length returns)

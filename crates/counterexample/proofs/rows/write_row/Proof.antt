@@ -9,7 +9,7 @@ use Rattle.theory.proofs.RangeLaws.{entry-count}
 use Rattle.byte_rows.specs.Placed.{placed}
 use Rattle.byte_rows.proofs.PlacedLaws.{placed-none, placed-length}
 use Rattle.settled.specs.Ends.{rowBy}
-use Rattle.counterexample.proofs.WriteLaws.{valueOf, wrote-more}
+use Rattle.counterexample.proofs.WriteLaws.{writtenValue, wrote-more}
 use Rattle.counterexample.proofs.rows.write_row.Statement.{statement}
 use Rattle.counterexample.proofs.rows.write_row.Tie as tie
 
@@ -43,7 +43,7 @@ loop-less c = search needs
 loop-again : tie.Need-loop-again Inv-loop μ-loop
 loop-again c = let a = c .before .before .before .before .args in let l = c .before .before .loop in let at = a .at + l .c in
     let more = wrote-more (a .first) (a .settled) (a .class) (a .at) (l .c) (c .value .result) (now (a .rows)) (c .value .ensures) (omega arith) in
-    (omega arith, rw (l .inv .2) (ap length more ∙ placed-length (a .at) _ (now (a .rows)) (omega (arith, entry-count (valueOf (a .first) (a .settled) (a .class)) 0 (l .c + 1)))), rw (l .inv .2) more)
+    (omega arith, rw (l .inv .2) (ap length more ∙ placed-length (a .at) _ (now (a .rows)) (omega (arith, entry-count (writtenValue (a .first) (a .settled) (a .class)) 0 (l .c + 1)))), rw (l .inv .2) more)
 
 same-length : tie.Need-same-length Inv-loop μ-loop
 same-length c = search needs
