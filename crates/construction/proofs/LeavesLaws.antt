@@ -12,7 +12,6 @@ use Rattle.theory.specs.Refusals.{passed, states-refused}
 use Rattle.theory.specs.Orders.{Query, interesting}
 use Rattle.theory.specs.Choices.{rulesUnder}
 use Rattle.theory.specs.Settled.{isHeld}
-use Rattle.theory.specs.Machine.{Sizes}
 use Rattle.theory.specs.Construction.{sizesOfQuery, heldUnder}
 use Rattle.theory.specs.Query.{Bytes, producedCount, testedCount, setCount, readQuery}
 use Rattle.theory.specs.Table.{Table}

@@ -4,7 +4,6 @@ use mathlib.Core.Path.{_≡_}
 use Rattle.theory.specs.Limits.{maxStates}
 use Rattle.theory.specs.Machine.{Sizes}
 use Rattle.theory.specs.Query.{Bytes}
-use Rattle.theory.specs.Table.{Table}
 use Rattle.theory.specs.Scratch.{rowsTable, Stored}
 
 -- The rows are numbered and the scratch has the table of the words, or there are more than 128.

@@ -12,7 +12,7 @@ use Rattle.theory.specs.NumberingWalk.{add, addAll, walk}
 use Rattle.theory.specs.Machine.{Sizes, Machine, numberedWithin}
 use Rattle.theory.specs.AnswerTree.{AnswerTree, treeBy, takeTree, heldNow, sameTree}
 use Rattle.theory.specs.Query.{Bytes, byteAt}
-use Rattle.theory.specs.Table.{Table, number, heldBytes, walkedTable}
+use Rattle.theory.specs.Table.{number, heldBytes}
 use Rattle.theory.specs.Scratch.{wordAt, heldPart, successorsPart, startsPart, openIn, rowsMachine, rowsTable}
 
 -- The word of a pair, of which so many bits count.
