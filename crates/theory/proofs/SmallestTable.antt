@@ -12,15 +12,10 @@ use Rattle.theory.specs.Table.{tableOf}
 use Rattle.theory.proofs.ListLaws.{distinct-length, upFrom-member, upFrom-length, map-members, distinct-map, products, products-length, products-member}
 use Rattle.theory.proofs.RowLaws.{all-append, all-cons}
 use Rattle.theory.proofs.PositionLaws.{position-map, addAll-distinct}
-use Rattle.theory.proofs.MachineLaws.{reached-start, reached-next, reached-runs, numbered-exactly, numbered-distinct, numbered-few, StaysBelow, inside-after}
+use Rattle.theory.proofs.MachineLaws.{reached-start, reached-next, reached-runs, numbered-exactly, numbered-distinct, numbered-few, StaysBelow, inside-after, runs-append}
 use Rattle.theory.proofs.JointLaws.{runs-both, decides-both, arrives-both, same-together}
 use Rattle.theory.proofs.WalkImage.{images, numbered-image}
 use Rattle.theory.proofs.RangeLaws.{map-below}
-
--- a run through two lists of sets, one after the other
-runs-append : {X : Type 0} (m : Machine X) (x : X) (ss rs : List ℕ) → runs m x (ss ++ rs) ≡ runs m (runs m x ss) rs
-runs-append m x [] rs = refl
-runs-append m x (s ∷ ss) rs = runs-append m (m .next x s) ss rs
 
 module _ {X : Type 0} (z : Sizes) (m : Machine X) (reduced : Reduced z m) (k : Machine ℕ) (b : ℕ) (inside : StaysBelow k z b) (same : SameAnswers z m k) where
   -- where the run that reaches a state leads in the second machine, and what is held from there on
