@@ -2,7 +2,7 @@
 //! a query as text, its table in words and as a picture, a supplier's table on trial, and
 //! two rows for an order that is not held.
 //!
-//! Nothing is decided here. Every table, trial and pair of rows comes from the proved
+//! Nothing is decided here. Every table and trial and any two rows come from the proved
 //! library, by way of [`order_tables`]; where a refusal is told in words, which size, item
 //! or answer is refused is found by asking the library again.
 //!

@@ -1,4 +1,4 @@
-// Whether two tables answer alike: what the two states of each joint state that is reached together hold. Nothing is known of a query. Every function requires what its callers
+// Whether two tables answer alike: what the two states of each joint state that is reached hold. Nothing is known of a query. Every function requires what its callers
 // have shown: none is an entry point.
 ghost use mathlib.Core.Path.{_≡_};
 ghost use Prim.Native.Nat.{_+_, _*_, _<_};
@@ -21,7 +21,7 @@ fn same_held(ours: &[u8], theirs: &[u8], x: StateNumber, y: StateNumber) -> bool
     table::held_word(ours, x) == table::held_word(theirs, y)
 }
 
-// Whether the states of joint state i hold the same, if it is in the set.
+// Whether the two states of joint state i hold the same, if it is in the set.
 fn alike(ours: &[u8], theirs: &[u8], reached: &[u8], i: usize) -> bool
     requires { ⌜ JointWalking (now ours) (now theirs) (now reached) × (i < maxJointStates) ⌝ }
     ensures { λ r. ⌜ Says (AlikeFrom (now (ours .entry)) (now (theirs .entry)) (now (reached .entry)) i (i + 1)) r ⌝ }

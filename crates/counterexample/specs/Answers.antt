@@ -5,7 +5,7 @@ use Rattle.theory.specs.Table.{Answer, grant, refuse}
 use Rattle.counterexample.specs.declared.Found.{Found}
 use Rattle.counterexample.specs.declared.Found.the-variants as found
 
--- A pair is 1 and none is 0, or the refusal.
+-- Two rows are 1 and none is 0, or the refusal.
 abbrev pub foundAnswer : Found → Answer
 foundAnswer found.TwoRows = grant 1
 foundAnswer found.None = grant 0

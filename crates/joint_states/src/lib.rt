@@ -1,4 +1,4 @@
-// The joint states of two tables, those reached together: those of the starts, and what taking each set in both states of a joint state leads to, until nothing is added.
+// A joint state is a state of one table with a state of another. Those of two tables that are reached: those of the starts, and what taking each set in both states leads to, until nothing is added.
 // Nothing is known of a query. Every function requires what its callers have shown, two tables that pass the table check and have the same sizes above all: none is an
 // entry point.
 ghost use mathlib.Core.Path.{_≡_};
@@ -128,7 +128,7 @@ fn close(ours: &[u8], theirs: &[u8], reached: &mut [u8])
     }
 }
 
-// Exactly the joint states that are reached together, whatever lies in the memory.
+// Exactly the joint states that are reached, whatever lies in the memory.
 pub fn reach(ours: &[u8], theirs: &[u8], reached: &mut [u8])
     requires { ⌜ Comparable (now ours) (now theirs) × (length (now reached) ≡ jointStatesLength) ⌝ }
     ensures { λ r. ⌜ AllTogether (now (ours .entry)) (now (theirs .entry)) (now (reached .exit)) ⌝ }

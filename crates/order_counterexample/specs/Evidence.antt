@@ -1,4 +1,4 @@
--- The text of a pair of rows, of "none" and of a refusal, and what is answered to every query that begins with the bytes that were read.
+-- The text of two rows, of "none" and of a refusal, and what is answered to every query that begins with the bytes that were read.
 use Prim.Native.Nat.{ℕ, _*_, _≤_, _<_, min}
 use mathlib.Core.Path.{_≡_}
 use mathlib.Core.List.{[], _∷_, _++_, map, flatten}
@@ -14,7 +14,7 @@ use Rattle.theory.specs.Counterexamples.{Shows}
 use Rattle.decimal.specs.Words.{largeNumber}
 use Rattle.listing.specs.Text.{Printed}
 
--- The longest pair: two lines of 12 values, each of three digits and a space or the end of the line.
+-- The longest two rows: two lines of 12 values, each of three digits and a space or the end of the line.
 abbrev pub longestRows : ℕ
 longestRows = 96
 
@@ -27,11 +27,11 @@ abbrev pub rowLine : Bytes → Bytes
 rowLine [] = lineEnd
 rowLine (v ∷ vs) = decimal v ++ (flatten (map spaced vs) ++ lineEnd)
 
--- A pair of rows of n values each, which are the first bytes, row after row.
+-- Two rows of n values each, which are the first bytes, row after row.
 abbrev pub rowsText : ℕ → Bytes → Bytes
 rowsText n rows = rowLine (take n rows) ++ rowLine (take n (drop n rows))
 
--- An answer for n columns: "none" is value 0 and a pair any other, or the refusal.
+-- An answer for n columns: "none" is value 0 and two rows any other, or the refusal.
 abbrev pub answerText : ℕ → Answer → Bytes → Bytes
 answerText n a rows = pick (eqb (a .refusal) passed) (pick (eqb (a .value) 0) noneLine (rowsText n rows)) (refusedLine (a .refusal))
 
@@ -49,7 +49,7 @@ pub record Small (produced sets order : ℕ) : Type 0 where
 abbrev pub ReadAs : ℕ → ℕ → Type 0
 ReadAs read n = read ≡ min n largeNumber
 
--- What is answered to a query and three numbers, with room for every pair of rows, is what the text begins with.
+-- What is answered to a query and three numbers, with room for any two rows, is what the text begins with.
 pub record Told (query : Bytes) (produced sets order : ℕ) (before after : Bytes) (count : ℕ) : Type 0 where
   pub room : Bytes
   pub enough : 2 * maxColumns ≤ length room

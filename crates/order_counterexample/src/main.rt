@@ -24,7 +24,7 @@ ghost use Rattle.theory.specs.Limits.{maxColumns};
 ghost use Rattle.listing.specs.Text.{longestRefusal, Wrote, Printed};
 ghost use Rattle.order_counterexample.specs.Evidence.{longestRows, noneLine, rowLine, rowsText, largeLine, Small, Told, EvidencePrinted};
 
-// Two rows of 12 columns, and the longest text of a pair.
+// Two rows of 12 columns, and the longest text of two rows.
 const ROWS_ROOM: usize = 24;
 
 const LONGEST_ROWS: usize = 96;
@@ -32,7 +32,7 @@ const LONGEST_ROWS: usize = 96;
 // Linux passes no longer argument.
 const LONGEST_WORD: usize = 131072;
 
-// The line that says that there is no such pair; how many bytes of the text it takes.
+// The line that says that there are no such rows; how many bytes of the text it takes.
 fn none(text: &mut [u8]) -> usize
     requires { ⌜ longestRows ≤ length (now text) ⌝ }
     ensures { λ r. ⌜ Printed (now (text .entry)) noneLine (now (text .exit)) r ⌝ }
@@ -50,7 +50,7 @@ fn row_line(row: &[u8], text: &mut [u8], at: usize) -> usize
     text::word(text, end, b"\n")
 }
 
-// The two lines of a pair of rows of n values.
+// The lines of two rows of n values.
 fn two_rows(rows: &[u8], n: usize, text: &mut [u8]) -> usize
     requires { ⌜ (1 ≤ n) × (n ≤ maxColumns) × (2 * n ≤ length (now rows)) × (longestRows ≤ length (now text)) ⌝ }
     ensures { λ r. ⌜ Printed (now (text .entry)) (rowsText n (now (rows .entry))) (now (text .exit)) r ⌝ }

@@ -1,5 +1,5 @@
 -- Document 02, Req 06: two rows that show why a sort is needed. From a query's bytes, a produced order, a choice of sets in force, an interesting order and a lent buffer
--- comes one refusal, or "none", or a pair of rows in the buffer.
+-- comes one refusal, or "none", or two rows in the buffer.
 use Prim.Native.Nat.{ℕ, _*_, _≤_, _<_}
 use mathlib.Core.Path.{_≡_}
 use mathlib.Core.Logic.{_≢_}
@@ -46,7 +46,7 @@ abbrev pub Breaking : Query → ℕ → ℕ → ℕ → Bytes → Bytes → Type
 Breaking q produced sets order one two = Counterexample (q .columns) (rulesChosen q sets) (standing q produced) (lookedFor q order) (map pos one) (map pos two)
 
 -- What is answered, and every byte of the buffer afterwards: each refusal under exactly its condition, in the order of the list; "none", value 0, exactly where the derivation
--- gives the order; and a pair, value 1, exactly where it does not. Which pair is left open: its rows fill the first bytes, row after row, and the others are kept.
+-- gives the order; and two rows, value 1, exactly where it does not. Which two is left open: they fill the first bytes, row after row, and the others are kept.
 pub data Shows (query : Bytes) (produced sets order : ℕ) (rows : Bytes) : Answer → Bytes → Type 0 where
   query-refused : queryRefusal query ≢ passed → Shows query produced sets order rows (refuse (queryRefusal query)) rows
   not-named : queryRefusal query ≡ passed → ¬ Named (readQuery query) produced sets order → Shows query produced sets order rows (refuse handle-refused) rows
