@@ -26,6 +26,16 @@ Inv-loop ours theirs reached₀ i sets our-row their-row count₀ s₀ reached c
 abbrev μ-loop : tie.MeasureT-loop
 μ-loop ours theirs reached₀ i sets our-row their-row count₀ s₀ reached count s = sets - s
 
+-- places of the code, each reached from a later one: the function's entry; the loop's turn in which a joint state is put in, and the entry from a turn
+abbrev entry : tie.After-sets Inv-loop μ-loop → tie.Start Inv-loop μ-loop
+entry c = c .before .before .before .before
+
+abbrev turn : tie.After-joint-state Inv-loop μ-loop → tie.At-loop Inv-loop μ-loop
+turn c = c .before .before .before .before .before
+
+abbrev begun : tie.At-loop Inv-loop μ-loop → tie.Start Inv-loop μ-loop
+begun t = entry (t .before .before .before)
+
 sets-requires : tie.Need-sets-requires Inv-loop μ-loop
 sets-requires c κs = search needs
 
@@ -33,13 +43,13 @@ cast-t11 : tie.Need-cast-t11 Inv-loop μ-loop
 cast-t11 c = search needs
 
 successors-requires : tie.Need-successors-requires Inv-loop μ-loop
-successors-requires c κs = let s = c .before .before .before .before in let w = s .pre .0 in (our-form (w .comparable), joint-below (w .comparable) _ (w .sound (s .args .i) (s .pre .1)) .0)
+successors-requires c κs = let s = entry c in let w = s .pre .0 in (our-form (w .comparable), joint-below (w .comparable) _ (w .sound (s .args .i) (s .pre .1)) .0)
 
 cast-t11-2 : tie.Need-cast-t11-2 Inv-loop μ-loop
 cast-t11-2 c = search needs
 
 successors-requires-2 : tie.Need-successors-requires-2 Inv-loop μ-loop
-successors-requires-2 c κs = let s = c .before .before .before .before .before in let w = s .pre .0 in (their-form (w .comparable), joint-below (w .comparable) _ (w .sound (s .args .i) (s .pre .1)) .1)
+successors-requires-2 c κs = let s = entry (c .before) in let w = s .pre .0 in (their-form (w .comparable), joint-below (w .comparable) _ (w .sound (s .args .i) (s .pre .1)) .1)
 
 loop-holds : tie.Need-loop-holds Inv-loop μ-loop
 loop-holds c = (omega arith, search needs, search needs, added-none _)
@@ -54,12 +64,13 @@ joint-state-requires : tie.Need-joint-state-requires Inv-loop μ-loop
 joint-state-requires c κs = search needs
 
 -- the joint state that set s leads to
-arrived : (c : tie.After-joint-state Inv-loop μ-loop) → let a = c .before .before .before .before .before .before .before .before .before .before .before .before .args in c .joint-state .result ≡ nextJointState (now (a .ours)) (now (a .theirs)) (a .i) (c .before .before .before .before .before .loop .s)
-arrived c = c .joint-state .ensures ∙ ap₂ (λ x y. jointNumber (getD x (c .before .before .before .before .before .loop .s) 0) (getD y (c .before .before .before .before .before .loop .s) 0)) (c .before .before .before .before .before .before .before .successors .ensures .0) (c .before .before .before .before .before .before .successors2 .ensures .0)
+arrived : (c : tie.After-joint-state Inv-loop μ-loop) → let t = turn c in let a = begun t .args in c .joint-state .result ≡ nextJointState (now (a .ours)) (now (a .theirs)) (a .i) (t .loop .s)
+arrived c = let t = turn c in
+    c .joint-state .ensures ∙ ap₂ (λ x y. jointNumber (getD x (t .loop .s) 0) (getD y (t .loop .s) 0)) (t .before .before .successors .ensures .0) (t .before .successors2 .ensures .0)
 
 add-requires : tie.Need-add-requires Inv-loop μ-loop
-add-requires c κs = let s = c .before .before .before .before .before .before .before .before .before .before .before .before in let l = c .before .before .before .before .before .loop in let w = s .pre .0 in
-    (search needs, subst (λ n. n < maxJointStates) (sym (arrived c)) (joint-number (w .comparable) _ (next-reached (w .comparable) (s .args .i) (l .s) (w .sound (s .args .i) (s .pre .1)) (omega arith))))
+add-requires c κs = let t = turn c in let s = begun t in let w = s .pre .0 in
+    (search needs, subst (λ n. n < maxJointStates) (sym (arrived c)) (joint-number (w .comparable) _ (next-reached (w .comparable) (s .args .i) (t .loop .s) (w .sound (s .args .i) (s .pre .1)) (omega arith))))
 
 add-count : tie.Need-add-count Inv-loop μ-loop
 add-count c = search needs
@@ -71,16 +82,15 @@ loop-less : tie.Need-loop-less Inv-loop μ-loop
 loop-less c = search needs
 
 loop-again : tie.Need-loop-again Inv-loop μ-loop
-loop-again c = let l = c .before .before .before .before .before .before .before .before .loop in let a = c .before .before .before .before .before .before .before .before .before .before .before .before .before .before .before .args in
-    let d = c .before .before .add .ensures in
-    (omega arith, l .inv .1, d .long ∙ l .inv .2, added-next (nextJointState (now (a .ours)) (now (a .theirs)) (a .i)) (l .s) (l .inv .3) (arrived (c .before .before .before)) d)
+loop-again c = let r = c .before .before .before in let l = turn r .loop in let a = begun (turn r) .args in let d = c .before .before .add .ensures in
+    (omega arith, l .inv .1, d .long ∙ l .inv .2, added-next (nextJointState (now (a .ours)) (now (a .theirs)) (a .i)) (l .s) (l .inv .3) (arrived r) d)
 
 same-length : tie.Need-same-length Inv-loop μ-loop
 same-length c = search needs
 
 returns : tie.Need-returns Inv-loop μ-loop
 returns c = let l = c .before .loop in
-    let end : l .s ≡ setsIn (now (c .before .before .before .before .before .before .before .before .args .ours)) = omega arith in
+    let end : l .s ≡ setsIn (now (begun (c .before) .args .ours)) = omega arith in
     rw end at (l .inv .3)
 
 pub visit-spec : {M : Type 1} → statement M
