@@ -8,12 +8,22 @@ use Rattle.counterexample.proofs.NamedLaws.{not-entered, not-looked-for
 use Rattle.counterexample.proofs.named.Statement.{statement}
 use Rattle.counterexample.proofs.named.Tie as tie
 
+-- places of the code, each reached from a later one: the function's entry; where the orders are counted, and the entry from there
+abbrev entry : tie.After-struct-known → tie.Start
+entry c = c .before .before .before
+
+abbrev counted : tie.After-sets → tie.After-order-count
+counted c = c .before .before .before .before
+
+abbrev begun : tie.After-order-count → tie.Start
+begun c = entry (c .before .before)
+
 produced-requires : tie.Need-produced-requires
 produced-requires c κs = search needs
 
 returns : tie.Need-returns
 returns c =
-    let a = c .before .before .before .before .args in
+    let a = entry (c .before) .args in
     fails (not-entered (now (a .query)) (a .produced .0) (a .sets .0) (a .order .0) (omega arith))
 
 order-count-requires : tie.Need-order-count-requires
@@ -24,8 +34,7 @@ cast-if2 c = search needs
 
 returns-2 : tie.Need-returns-2
 returns-2 c =
-    let counted = c .before .before in
-    let a = counted .before .before .before .before .before .args in
+    let a = begun (c .before .before) .args in
     fails (not-looked-for (now (a .query)) (a .produced .0) (a .sets .0) (a .order .0) (omega arith))
 
 cast-result : tie.Need-cast-result
@@ -39,14 +48,12 @@ cast-result-2 c = search needs
 
 shr-result : tie.Need-shr-result
 shr-result c =
-    let counted = c .before .before .before .before in
-    let s = counted .before .before .before .before .before in
+    let s = begun (counted c) in
     omega (arith, query-sizes (now (s .args .query)) (s .pre) .few-sets)
 
 returns-3 : tie.Need-returns-3
 returns-3 c =
-    let counted = c .before .before .before .before in
-    let a = counted .before .before .before .before .before .args in
+    let a = begun (counted c) .args in
     rw (c .sets .ensures) (chosen-says (now (a .query)) (a .produced .0) (a .sets .0) (a .order .0) (omega arith) (omega arith))
 
 pub named-spec : {M : Type 1} → statement M
