@@ -9,6 +9,16 @@ use Rattle.settled.proofs.MaskLaws.{order-narrow}
 use Rattle.counterexample.proofs.tested.Statement.{statement}
 use Rattle.counterexample.proofs.tested.Tie as tie
 
+-- places of the code, each reached from a later one: the function's entry; where the test is prepared, and where both orders are read
+abbrev entry : tie.After-prepare → tie.Start
+entry c = c .before .before .before .before .before
+
+abbrev prepared : tie.After-order2 → tie.After-prepare
+prepared c = c .before .before .before .before .before
+
+abbrev read : tie.After-classes3 → tie.After-order2
+read c = c .before .before .before
+
 slice-aggregate-prepare : tie.Need-slice-aggregate-prepare
 slice-aggregate-prepare c = search needs
 
@@ -37,18 +47,18 @@ slice-aggregate-test-3 : tie.Need-slice-aggregate-test-3
 slice-aggregate-test-3 c = search needs
 
 test-requires : tie.Need-test-requires
-test-requires c κs = let s = c .before .before .before .before .before .before .before .before .before .before .before .before .before in let q = now (s .args .query) in let k = c .before .before .before .before .before .before .before .before .prepare .ensures in (
+test-requires c κs = let r = read c in let s = entry (prepared r) in let q = now (s .args .query) in let k = prepared r .prepare .ensures in (
   omega (arith, k .1, k .2),
   omega (arith, k .1, k .3),
   k .4,
-  order-narrow q (s .pre .0) _ (c .before .before .before .before .order .ensures .order) (omega (arith, s .pre .1, s .pre .2)),
-  order-narrow q (s .pre .0) _ (c .before .before .before .order2 .ensures .order) (omega (arith, s .pre .1, s .pre .2)),
+  order-narrow q (s .pre .0) _ (r .before .order .ensures .order) (omega (arith, s .pre .1, s .pre .2)),
+  order-narrow q (s .pre .0) _ (r .order2 .ensures .order) (omega (arith, s .pre .1, s .pre .2)),
 )
 
 returns : tie.Need-returns
-returns c = let a = c .before .before .before .before .before .before .before .before .before .before .before .before .before .before .args in
-    subst₂ (λ p o. Ends (rulesAt (now (a .query)) (a .sets .0)) p o (c .test .result)) (c .before .before .before .before .before .order .ensures .order) (c .before .before .before .before .order2 .ensures .order)
-    (c .test .ensures (rulesAt (now (a .query)) (a .sets .0)) (c .before .before .before .before .before .before .before .before .before .prepare .ensures .0))
+returns c = let r = read (c .before) in let t = prepared r in let a = entry t .args in
+    subst₂ (λ p o. Ends (rulesAt (now (a .query)) (a .sets .0)) p o (c .test .result)) (r .before .order .ensures .order) (r .order2 .ensures .order)
+    (c .test .ensures (rulesAt (now (a .query)) (a .sets .0)) (t .prepare .ensures .0))
 
 pub tested-spec : {M : Type 1} → statement M
 tested-spec =
