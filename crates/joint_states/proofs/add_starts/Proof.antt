@@ -23,6 +23,16 @@ Inv-loop ours theirs reached₀ produced count₀ p₀ reached count p = (p ≤ 
 abbrev μ-loop : tie.MeasureT-loop
 μ-loop ours theirs reached₀ produced count₀ p₀ reached count p = produced - p
 
+-- places of the code, each reached from a later one: the function's entry from a turn of the loop; the turn from where the starts are read, and from where it has their joint state
+abbrev begun : tie.At-loop Inv-loop μ-loop → tie.Start Inv-loop μ-loop
+begun t = t .before .before .before .before .before
+
+abbrev reading : tie.After-shared-slice-known3 Inv-loop μ-loop → tie.At-loop Inv-loop μ-loop
+reading c = c .before .before .before
+
+abbrev turn : tie.After-joint-state Inv-loop μ-loop → tie.At-loop Inv-loop μ-loop
+turn c = reading (c .before .before)
+
 produced-requires : tie.Need-produced-requires Inv-loop μ-loop
 produced-requires c κs = search needs
 
@@ -33,20 +43,20 @@ add-joint-state : tie.Need-add-joint-state Inv-loop μ-loop
 add-joint-state c = search needs
 
 shared-slice-read-joint-state : tie.Need-shared-slice-read-joint-state Inv-loop μ-loop
-shared-slice-read-joint-state c = let s = c .before .before .before .before .before .before .before .before in start-places (s .pre .0) (c .before .before .before .loop .p) (omega arith) .0
+shared-slice-read-joint-state c = let t = reading c in start-places (begun t .pre .0) (t .loop .p) (omega arith) .0
 
 add-joint-state-2 : tie.Need-add-joint-state-2 Inv-loop μ-loop
 add-joint-state-2 c = search needs
 
 shared-slice-read-joint-state-2 : tie.Need-shared-slice-read-joint-state-2 Inv-loop μ-loop
-shared-slice-read-joint-state-2 c = let s = c .before .before .before .before .before .before .before .before .before in start-places (s .pre .0) (c .before .before .before .before .loop .p) (omega arith) .1
+shared-slice-read-joint-state-2 c = let t = reading (c .before) in start-places (begun t .pre .0) (t .loop .p) (omega arith) .1
 
 joint-state-requires : tie.Need-joint-state-requires Inv-loop μ-loop
 joint-state-requires c κs = search needs
 
 add-requires : tie.Need-add-requires Inv-loop μ-loop
-add-requires c κs = let s = c .before .before .before .before .before .before .before .before .before .before in
-    (search needs, subst (λ n. n < maxJointStates) (sym (c .joint-state .ensures)) (joint-number (s .pre .0) _ (start-reached (s .pre .0) (c .before .before .before .before .before .loop .p) (omega arith))))
+add-requires c κs = let t = turn c in let s = begun t in
+    (search needs, subst (λ n. n < maxJointStates) (sym (c .joint-state .ensures)) (joint-number (s .pre .0) _ (start-reached (s .pre .0) (t .loop .p) (omega arith))))
 
 add-count : tie.Need-add-count Inv-loop μ-loop
 add-count c = search needs
@@ -58,16 +68,15 @@ loop-less : tie.Need-loop-less Inv-loop μ-loop
 loop-less c = search needs
 
 loop-again : tie.Need-loop-again Inv-loop μ-loop
-loop-again c = let l = c .before .before .before .before .before .before .before .before .loop in let a = c .before .before .before .before .before .before .before .before .before .before .before .before .before .args in
-    let d = c .before .before .add .ensures in
-    (omega arith, l .inv .1, d .long ∙ l .inv .2, added-next (startJointState (now (a .ours)) (now (a .theirs))) (l .p) (l .inv .3) (c .before .before .before .joint-state .ensures) d)
+loop-again c = let r = c .before .before .before in let l = turn r .loop in let a = begun (turn r) .args in let d = c .before .before .add .ensures in
+    (omega arith, l .inv .1, d .long ∙ l .inv .2, added-next (startJointState (now (a .ours)) (now (a .theirs))) (l .p) (l .inv .3) (r .joint-state .ensures) d)
 
 same-length : tie.Need-same-length Inv-loop μ-loop
 same-length c = search needs
 
 returns : tie.Need-returns Inv-loop μ-loop
 returns c = let l = c .before .loop in
-    let end : l .p ≡ producedIn (now (c .before .before .before .before .before .before .args .ours)) = omega arith in
+    let end : l .p ≡ producedIn (now (begun (c .before) .args .ours)) = omega arith in
     rw end at (l .inv .3)
 
 pub add-starts-spec : {M : Type 1} → statement M
