@@ -12,6 +12,13 @@ use Rattle.lookup.specs.Answers.{answerCode}
 use Rattle.lookup.proofs.formed.take.Statement.{statement}
 use Rattle.lookup.proofs.formed.take.Tie as tie
 
+-- places of the code, each reached from a later one: the function's entry, from the test of the state and from that of the set
+abbrev entry : tie.After-states → tie.Start
+entry c = c .before .before .before .before
+
+abbrev begun : tie.After-sets → tie.Start
+begun c = entry (c .before .before)
+
 cast-q : tie.Need-cast-q
 cast-q c = search needs
 
@@ -27,7 +34,7 @@ refused-requires c κs = search needs
 returns : tie.Need-returns
 unfolding takeIn
 returns c =
-    let s = c .before .before .before .before .before .before in
+    let s = entry (c .before .before) in
     let a = s .args in
     let h : statesIn (now (a .table)) ≤ a .state .0 = omega arith in
     let e : refuse handle-refused ≡ takeIn (now (a .table)) (a .state .0) (a .set .0) = rw (form-passed (s .pre)) (search picks) in
@@ -42,7 +49,7 @@ refused-requires-2 c κs = search needs
 returns-2 : tie.Need-returns-2
 unfolding takeIn
 returns-2 c =
-    let s = c .before .before .before .before .before .before .before .before in
+    let s = begun (c .before .before) in
     let a = s .args in
     let h : a .state .0 < statesIn (now (a .table)) = omega arith in
     let k : setsIn (now (a .table)) ≤ a .set .0 = omega arith in
@@ -61,13 +68,14 @@ granted-requires c κs = search needs
 returns-3 : tie.Need-returns-3
 unfolding takeIn
 returns-3 c =
-    let s = c .before .before .before .before .before .before .before .before .before .before in
+    let row = c .before .before in
+    let s = begun (row .before .before) in
     let a = s .args in
     let h : a .state .0 < statesIn (now (a .table)) = omega arith in
     let k : a .set .0 < setsIn (now (a .table)) = omega arith in
     let e : grantState (now (a .table)) (successorIn (now (a .table)) (a .state .0) (a .set .0)) ≡ takeIn (now (a .table)) (a .state .0) (a .set .0) =
     rw (form-passed (s .pre)) (search picks) in
-    (rw (c .before .before .successors .ensures .0) at (c .granted .ensures)) ∙ ap answerCode e
+    (rw (row .successors .ensures .0) at (c .granted .ensures)) ∙ ap answerCode e
 
 pub take-spec : {M : Type 1} → statement M
 take-spec =
