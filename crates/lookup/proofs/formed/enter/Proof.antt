@@ -12,6 +12,10 @@ use Rattle.lookup.specs.Answers.{answerCode}
 use Rattle.lookup.proofs.formed.enter.Statement.{statement}
 use Rattle.lookup.proofs.formed.enter.Tie as tie
 
+-- a place of the code, reached from a later one: the function's entry, from the test of the order
+abbrev entry : tie.After-produced → tie.Start
+entry c = c .before .before .before
+
 cast-p : tie.Need-cast-p
 cast-p c = search needs
 
@@ -33,7 +37,7 @@ refused-requires c κs = search needs
 returns : tie.Need-returns
 unfolding enter
 returns c =
-    let s = c .before .before .before .before .before .before in
+    let s = entry (c .before .before .before) in
     let a = s .args in
     let h : a .order .0 < producedIn (now (a .table)) = omega arith in
     let e : grantState (now (a .table)) (startIn (now (a .table)) (a .order .0)) ≡ enter (now (a .table)) (a .order .0) =
@@ -43,7 +47,7 @@ returns c =
 returns-2 : tie.Need-returns-2
 unfolding enter
 returns-2 c =
-    let s = c .before .before .before .before .before in
+    let s = entry (c .before .before) in
     let a = s .args in
     let h : producedIn (now (a .table)) ≤ a .order .0 = omega arith in
     let e : refuse handle-refused ≡ enter (now (a .table)) (a .order .0) = rw (form-passed (s .pre)) (search picks) in
