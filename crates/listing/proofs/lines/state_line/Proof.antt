@@ -8,6 +8,22 @@ use Rattle.listing.proofs.TextLaws.{wrote-as, wrote-on}
 use Rattle.listing.proofs.lines.state_line.Statement.{statement}
 use Rattle.listing.proofs.lines.state_line.Tie as tie
 
+-- places of the code, each reached from a later one: the function's entry, then where the line's first word is written, the state's number, the second word and the row
+abbrev entry : tie.After-word → tie.Start
+entry c = c .before .before .before .before .before
+
+abbrev first-word : tie.After-number → tie.After-word
+first-word c = c .before .before .before .before .before
+
+abbrev state : tie.After-word2 → tie.After-number
+state c = c .before .before .before .before .before
+
+abbrev second-word : tie.After-row-numbers → tie.After-word2
+second-word c = c .before .before .before .before .before
+
+abbrev row : tie.After-held-field → tie.After-row-numbers
+row c = c .before .before .before .before
+
 slice-aggregate-word : tie.Need-slice-aggregate-word
 slice-aggregate-word c = search needs
 
@@ -42,15 +58,14 @@ returns : tie.Need-returns
 unfolding stateLine
 returns c =
     let end = c .before .before in
-    let row = end .before .before .before .before in
-    let next = row .before .before .before .before .before in
-    let state = next .before .before .before .before .before in
-    let head = state .before .before .before .before .before in
-    let start = head .before .before .before .before .before in
-    let row-short : Wrote _ _ _ longestRow _ _ = wrote-as refl (omega (arith, row .before .before .successors .ensures .1, start .pre .0)) (row .row-numbers .ensures) in
-    rw (← row .before .before .successors .ensures .0)
-    (wrote-on (head .word .ensures)
-    (wrote-on (state .number .ensures) (wrote-on (next .word2 .ensures) (wrote-on row-short (end .held-field .ensures)))))
+    let r = row end in
+    let w = second-word r in
+    let n = state w in
+    let f = first-word n in
+    let successors = r .before .before .successors .ensures in
+    let row-short : Wrote _ _ _ longestRow _ _ = wrote-as refl (omega (arith, successors .1, entry f .pre .0)) (r .row-numbers .ensures) in
+    rw (← successors .0)
+    (wrote-on (f .word .ensures) (wrote-on (n .number .ensures) (wrote-on (w .word2 .ensures) (wrote-on row-short (end .held-field .ensures)))))
 
 pub state-line-spec : {M : Type 1} → statement M
 state-line-spec =
