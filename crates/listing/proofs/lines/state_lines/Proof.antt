@@ -20,6 +20,13 @@ Inv-loop table text₀ at n end₀ state₀ text end state = (state ≤ n) × (l
 abbrev μ-loop : tie.MeasureT-loop
 μ-loop table text₀ at n end₀ state₀ text end state = n - state
 
+-- places of the code, each reached from a later one: the function's entry, and a turn's begin
+abbrev entry : tie.At-loop Inv-loop μ-loop → tie.Start Inv-loop μ-loop
+entry c = c .before .before .before .before
+
+abbrev turn : tie.After-state-line Inv-loop μ-loop → tie.At-loop Inv-loop μ-loop
+turn c = c .before .before .before
+
 states-requires : tie.Need-states-requires Inv-loop μ-loop
 states-requires c κs = search needs
 
@@ -41,9 +48,10 @@ loop-less c = search needs
 
 loop-again : tie.Need-loop-again Inv-loop μ-loop
 loop-again c =
-    let l = c .before .before .before .before .before .loop in
-    let table = now (c .before .before .before .before .before .before .before .before .before .args .table) in
-    (search needs, search needs, wrote-turn (l .state) (lines-more (stateLine table) (l .state)) (l .inv .2) (c .before .before .state-line .ensures))
+    let line = c .before .before in
+    let t = turn line in
+    let l = t .loop in
+    (search needs, search needs, wrote-turn (l .state) (lines-more (stateLine (now (entry t .args .table))) (l .state)) (l .inv .2) (line .state-line .ensures))
 
 same-length : tie.Need-same-length Inv-loop μ-loop
 same-length c = search needs
@@ -51,7 +59,7 @@ same-length c = search needs
 returns : tie.Need-returns Inv-loop μ-loop
 returns c =
     let l = c .before .loop in
-    let table = now (c .before .before .before .before .before .args .table) in
+    let table = now (entry (c .before) .args .table) in
     let e : l .state ≡ statesIn table = omega arith in
     wrote-as (ap (lines (stateLine table)) e) (omega arith) (l .inv .2)
 
