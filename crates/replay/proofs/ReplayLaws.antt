@@ -26,12 +26,12 @@ answers-run t state (kind ∷ handle ∷ b) =
     rw (run-step t state (lookupOf kind handle) (lookupsIn b)) (ap (λ rs. answerTo t state (lookupOf kind handle) ∷ rs) (answers-run t (stateAfter t state (lookupOf kind handle)) b))
 
 -- two bytes are written at place i, and f goes on behind them
-pair-written : (b : Bytes) (i x y : ℕ) (f : Bytes → Bytes) → suc i < length b →
+answer-written : (b : Bytes) (i x y : ℕ) (f : Bytes → Bytes) → suc i < length b →
     take (suc (suc i)) (set (set b i x) (suc i) y) ++ f (drop (suc (suc i)) (set (set b i x) (suc i) y)) ≡ take i b ++ (x ∷ y ∷ f (drop (suc (suc i)) b))
-pair-written [] i x y f h = let z : ⊥ = omega arith in absurd z
-pair-written (k ∷ []) zero x y f h = let z : ⊥ = omega arith in absurd z
-pair-written (k ∷ l ∷ b) zero x y f h = refl
-pair-written (k ∷ b) (suc i) x y f h = ap (λ r. k ∷ r) (pair-written b i x y f (le-of-suc-le-suc h))
+answer-written [] i x y f h = let z : ⊥ = omega arith in absurd z
+answer-written (k ∷ []) zero x y f h = let z : ⊥ = omega arith in absurd z
+answer-written (k ∷ l ∷ b) zero x y f h = refl
+answer-written (k ∷ b) (suc i) x y f h = ap (λ r. k ∷ r) (answer-written b i x y f (le-of-suc-le-suc h))
 
 -- One turn: the lookup at place i is answered, and the rest is replayed from the state after it.
 pub replayed-turn : (t : Bytes) (state : ℕ) (b : Bytes) (i : ℕ) → i + 1 < length b →
@@ -41,7 +41,7 @@ replayed-turn t state b i h =
     let first : i < length b = omega arith in
     let second : suc i < length b = omega arith in
     rw (two, add-one i, drop-cons b i 0 first, drop-cons b (suc i) 0 second)
-    (pair-written b i _ _ (replayed t (stateAfter t state (lookupOf (getD b i 0) (getD b (suc i) 0)))) second)
+    (answer-written b i _ _ (replayed t (stateAfter t state (lookupOf (getD b i 0) (getD b (suc i) 0)))) second)
 
 -- What is left of less than two bytes is kept.
 pub replayed-short : (t : Bytes) (state : ℕ) (b : Bytes) → length b < 2 → replayed t state b ≡ b

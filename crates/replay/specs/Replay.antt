@@ -38,7 +38,7 @@ stateAfter t state (entry p) = passOn (enter t p) state
 stateAfter t state (taking s) = passOn (takeIn t state s) state
 stateAfter t state (asking i) = state
 
--- The bytes of lookups with each pair replaced by its answer. A last odd byte is kept.
+-- The bytes of lookups, the two of each replaced by its answer. A last odd byte is kept.
 abbrev pub replayed : Bytes → ℕ → Bytes → Bytes
 replayed t state [] = []
 replayed t state (last ∷ []) = last ∷ []
