@@ -1,5 +1,6 @@
 -- What is built: the trees of the query's answers are the rows, within the limit, and tell the query's derivation.
 use Prim.Native.Nat.{ℕ, _+_, _≤_}
+use native.Mathlib.Omega.{arith}
 use mathlib.Core.Path.{_≡_, refl, sym, _∙_, ap, subst}
 use mathlib.Core.Bool.{false}
 use mathlib.Core.List.{List, [], map, List·Memᴰ, Memᴰ·map, Memᴰ·append-left}
@@ -27,7 +28,7 @@ use Rattle.theory.proofs.HeldLaws.{held-exactly}
 use Rattle.theory.proofs.AnswerLaws.{decides-tree, held-after, answering-reduced}
 use Rattle.theory.proofs.MachineLaws.{numbered-exactly, numbered-distinct, numbered-many, StaysBelow}
 use Rattle.theory.proofs.JointLaws.{Covers, same-sym, same-trans, covers-reduced}
-use Rattle.theory.proofs.MachineTable.{Limited, Enumerated, table-sized, table-numbered, numbers-cover, numbers-answer}
+use Rattle.theory.proofs.MachineTable.{Limited, Enumerated, table-sized, table-numbered, numbers-inside, numbers-cover, numbers-answer}
 use Rattle.theory.proofs.SmallestTable.{smallest, one-table}
 use Rattle.theory.proofs.Faithfulness.{Wide, numbers-tell, faithful-table, table-passes}
 
@@ -149,17 +150,30 @@ module _ {q : Query} {t : Table} (limits : Limited (sizesOfQuery q)) (d : Made q
   unfolding tableOf
   made-count = by-rows (λ k. k .stateCount ≡ length (queryStates q)) refl
 
-  -- No machine of fewer states has the same answers, ..
+  -- No machine of fewer states has the same answers.
   pub made-smallest : (k : Machine ℕ) (b : ℕ) → StaysBelow k (sizesOfQuery q) b → SameAnswers (sizesOfQuery q) (numbersOf t) k → t .stateCount ≤ b
   made-smallest k b inside same =
       subst (λ n. n ≤ b) (sym made-count)
       (smallest (sizesOfQuery q) (answersOf q) (states-reduced q) k b inside (same-trans (sizesOfQuery q) (answersOf q) (numbersOf t) k answers same) (queryStates q)
       (numbered-distinct (answersOf q) (sizesOfQuery q) decides-tree maxStates) (λ x i. known .exactly x .0 i))
 
-  -- .. and every reduced machine with the same answers has this table.
-  pub made-only : {X : Type 0} (k : Machine X) → Decides (k .same) → Reduced (sizesOfQuery q) k → length (numberedWithin k maxStates (sizesOfQuery q)) ≤ maxStates →
-      SameAnswers (sizesOfQuery q) (numbersOf t) k → t ≡ tableOf k (sizesOfQuery q) (numberedWithin k maxStates (sizesOfQuery q))
+  -- its numbers stay below its count of states, so a reduced machine with the same answers has no more states, ..
+  pub made-inside : StaysBelow (numbersOf t) (sizesOfQuery q) (t .stateCount)
+  made-inside = subst (λ z. StaysBelow (numbersOf t) z (t .stateCount)) made-sizes (numbers-inside t made-sized made-numbered)
+
+  only-few : {X : Type 0} (k : Machine X) → Decides (k .same) → Reduced (sizesOfQuery q) k → SameAnswers (sizesOfQuery q) (numbersOf t) k → length (numberedWithin k maxStates (sizesOfQuery q)) ≤ maxStates
+  only-few k decides reduced same =
+      ltb-false maxStates (length (numberedWithin k maxStates (sizesOfQuery q)))
+      (false-says (numbered-many k (sizesOfQuery q) decides maxStates)
+      (λ m.
+      let fits = smallest (sizesOfQuery q) k reduced (numbersOf t) (t .stateCount) made-inside (same-sym (sizesOfQuery q) (numbersOf t) k same) (m .things) (m .different) (m .each) in
+      omega (arith, fits, m .many, made-sized .few-states)))
+
+  -- .. and it has this table.
+  pub made-only : {X : Type 0} (k : Machine X) → Decides (k .same) → Reduced (sizesOfQuery q) k → SameAnswers (sizesOfQuery q) (numbersOf t) k →
+      t ≡ tableOf k (sizesOfQuery q) (numberedWithin k maxStates (sizesOfQuery q))
   unfolding tableOf walkedTable
-  made-only k decides reduced′ few same =
+  made-only k decides reduced same =
       d .table-is
-      ∙ one-table (sizesOfQuery q) (answersOf q) k decides-tree decides (same-trans (sizesOfQuery q) (answersOf q) (numbersOf t) k answers same) (states-reduced q) reduced′ maxStates (known .few) few
+      ∙ one-table (sizesOfQuery q) (answersOf q) k decides-tree decides (same-trans (sizesOfQuery q) (answersOf q) (numbersOf t) k answers same) (states-reduced q) reduced maxStates (known .few)
+      (only-few k decides reduced same)

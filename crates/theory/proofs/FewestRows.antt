@@ -89,15 +89,15 @@ module _ {query t : Bytes} (b : Built query t) where
       )
 
   -- Every reduced machine with the same answers has the same table.
-  pub built-only : {X : Type 0} (k : Machine X) → Decides (k .same) → Reduced (sizesOfQuery q) k → length (numberedWithin k maxStates (sizesOfQuery q)) ≤ maxStates →
-      SameAnswers (sizesOfQuery q) (numbersOf (b .contents)) k → t ≡ writeTable (tableOf k (sizesOfQuery q) (numberedWithin k maxStates (sizesOfQuery q)))
-  built-only k decides reduced few same = b .bytes-are ∙ ap writeTable (made-only limits (b .made) k decides reduced few same)
+  pub built-only : {X : Type 0} (k : Machine X) → Decides (k .same) → Reduced (sizesOfQuery q) k → SameAnswers (sizesOfQuery q) (numbersOf (b .contents)) k →
+      t ≡ writeTable (tableOf k (sizesOfQuery q) (numberedWithin k maxStates (sizesOfQuery q)))
+  built-only k decides reduced same = b .bytes-are ∙ ap writeTable (made-only limits (b .made) k decides reduced same)
 
-  -- In the derivation's words there is one smallest table: that of every reduced machine that tells the query's derivation is the one that is built.
-  pub only-smallest : {X : Type 0} (k : Machine X) → Decides (k .same) → Reduced (sizesOfQuery q) k → length (numberedWithin k maxStates (sizesOfQuery q)) ≤ maxStates →
-      Wide q k → Tells q k → t ≡ writeTable (tableOf k (sizesOfQuery q) (numberedWithin k maxStates (sizesOfQuery q)))
-  only-smallest k decides reduced few wide tells =
-      built-only k decides reduced few (tells-same q (numbersOf (b .contents)) k (made-wide limits (b .made)) wide (made-tells limits (b .made) formed) tells)
+  -- In the derivation's words there is one smallest table: that of every reduced machine that tells the query's derivation, an entry for each interesting order, is the one that is built.
+  pub only-smallest : {X : Type 0} (k : Machine X) → Decides (k .same) → Reduced (sizesOfQuery q) k → Wide q k → Tells q k →
+      t ≡ writeTable (tableOf k (sizesOfQuery q) (numberedWithin k maxStates (sizesOfQuery q)))
+  only-smallest k decides reduced wide tells =
+      built-only k decides reduced (tells-same q (numbersOf (b .contents)) k (made-wide limits (b .made)) wide (made-tells limits (b .made) formed) tells)
 
 -- Where there are too many states, no table that passes the table check has the query's answers.
 pub eight-none : (q : Query) → WellFormed q → construct q ≡ too-many → (t : Bytes) → tableRefusal t ≡ passed → ¬ Faithful q t

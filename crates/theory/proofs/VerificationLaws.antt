@@ -22,10 +22,10 @@ use Rattle.theory.proofs.ChoiceNumbers.{bits-length}
 use Rattle.theory.proofs.ReadLaws.{query-formed}
 use Rattle.theory.proofs.MachineLaws.{StaysBelow}
 use Rattle.theory.proofs.JointLaws.{agree-says, agree-parts, joint-few}
-use Rattle.theory.proofs.MachineTable.{Limited, numbers-inside}
+use Rattle.theory.proofs.MachineTable.{Limited}
 use Rattle.theory.proofs.Faithfulness.{table-checked, passed-faithful, tells-same, same-tells}
 use Rattle.theory.proofs.BuildLaws.{construct-means}
-use Rattle.theory.proofs.ConstructionLaws.{Made, made, made-sized, made-numbered, made-tells, made-sizes, made-wide}
+use Rattle.theory.proofs.ConstructionLaws.{Made, made, made-sized, made-tells, made-inside, made-wide}
 use Rattle.theory.proofs.DemandThree.{query-limited}
 
 -- two lists of one length that are not the same differ at some entry
@@ -57,9 +57,6 @@ their-width q t sizes state =
 
 -- a query's own table beside a table that passes the table check and has the query's sizes
 module _ {q : Query} {ours : Table} (formed : WellFormed q) (limits : Limited (sizesOfQuery q)) (d : Made q ours) (t : Bytes) (passes : tableRefusal t ≡ passed) (sizes : SameSizes q t) where
-  our-states : StaysBelow (numbersOf ours) (sizesOfQuery q) (ours .stateCount)
-  our-states = subst (λ z. StaysBelow (numbersOf ours) z (ours .stateCount)) (made-sizes limits d) (numbers-inside ours (made-sized limits d) (made-numbered limits d))
-
   their-states : StaysBelow (machineIn t) (sizesOfQuery q) (statesIn t)
   their-states = subst (λ z. StaysBelow (machineIn t) z (statesIn t)) (sizes-are q t sizes) (table-checked t passes .inside)
 
@@ -75,13 +72,13 @@ module _ {q : Query} {ours : Table} (formed : WellFormed q) (limits : Limited (s
   pub answers-say : Says (SameAnswers (sizesOfQuery q) (numbersOf ours) (machineIn t)) (agree maxJointStates (sizesOfQuery q) (numbersOf ours) (machineIn t))
   answers-say =
       agree-says (numbersOf ours) (machineIn t) (sizesOfQuery q) decides-number decides-number maxJointStates
-      (joint-few our-states their-states (made-sized limits d .few-states) (table-checked t passes .few) decides-number decides-number)
+      (joint-few (made-inside limits d) their-states (made-sized limits d .few-states) (table-checked t passes .few) decides-number decides-number)
 
   -- .. and where it fails, some answer is wrong
   pub answers-wrong : agree maxJointStates (sizesOfQuery q) (numbersOf ours) (machineIn t) ≡ false → WrongAnswer q t
   answers-wrong e =
       let r = agree-parts (numbersOf ours) (machineIn t) (sizesOfQuery q) decides-number decides-number maxJointStates
-      (joint-few our-states their-states (made-sized limits d .few-states) (table-checked t passes .few) decides-number decides-number) e in
+      (joint-few (made-inside limits d) their-states (made-sized limits d .few-states) (table-checked t passes .few) decides-number decides-number) e in
       let w = made-wide limits d (r .order) (r .sets) (r .produced) (r .below) in
       let i = differ-at _ _ (w ∙ sym (their-width q t sizes _)) (r .differ) in
       let l = subst (λ k. i .0 < k) w (i .1) in
