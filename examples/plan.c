@@ -3,6 +3,7 @@
  * The query is that of examples/first.query: columns a, b, c; orders (a) and (b,a) can be produced, (a,b) and (c) are only looked for;
  * set 0 brings a -> b and set 1 brings b = c. */
 #include <stdio.h>
+#include <stdlib.h>
 
 #include "order_tables.h"
 
@@ -21,9 +22,19 @@ static const char *const orders[4] = {"(a)", "(b,a)", "(a,b)", "(c)"};
 static uint8_t scratch[ORDER_TABLE_SCRATCH];
 static uint8_t output[ORDER_TABLE_LONGEST_TABLE];
 
+/* The value of a result. A refusal ends the program: its value, 0, is no state and no answer. */
+static uint32_t granted(uint32_t result) {
+    uint32_t refusal = order_table_refusal(result);
+    if (refusal != ORDER_TABLE_GRANTED) {
+        fprintf(stderr, "refused %u, %s\n", refusal, order_table_refusal_word(refusal));
+        exit(EXIT_FAILURE);
+    }
+    return order_table_value(result);
+}
+
 /* Prints which interesting orders a state holds: one word has them all. */
 static void print_held(const char *what, size_t length, uint8_t state) {
-    uint32_t word = order_table_value(order_table_word(output, length, state));
+    uint32_t word = granted(order_table_word(output, length, state));
     printf("%s: state %u holds", what, state);
     for (uint8_t order = 0; order < 4; order++) {
         if ((word >> order) & 1) {
@@ -34,30 +45,27 @@ static void print_held(const char *what, size_t length, uint8_t state) {
 }
 
 int main(void) {
-    uint32_t built = order_table_build(query, sizeof query, scratch, sizeof scratch, output, sizeof output);
-    if (order_table_refusal(built) != ORDER_TABLE_GRANTED) {
-        printf("refused %u\n", order_table_refusal(built));
-        return 1;
-    }
-    size_t length = order_table_value(built);
+    size_t length = granted(order_table_build(query, sizeof query, scratch, sizeof scratch, output, sizeof output));
     printf("table of %zu bytes, check %u\n", length, order_table_refusal(order_table_check(output, length)));
 
-    uint8_t scan = (uint8_t)order_table_value(order_table_enter(output, length, 0));
+    uint8_t scan = (uint8_t)granted(order_table_enter(output, length, 0));
     print_held("scan in (a)", length, scan);
-    uint8_t selected = (uint8_t)order_table_value(order_table_take(output, length, scan, 0));
+    uint8_t selected = (uint8_t)granted(order_table_take(output, length, scan, 0));
     print_held("after set 0", length, selected);
-    const char *sort = order_table_ask(output, length, selected, 2) == 1 ? "no sort" : "a sort";
+    const char *sort = granted(order_table_ask(output, length, selected, 2)) == 1 ? "no sort" : "a sort";
     printf("a merge join by (a,b) needs %s\n", sort);
-    uint8_t joined = (uint8_t)order_table_value(order_table_take(output, length, selected, 1));
+    uint8_t joined = (uint8_t)granted(order_table_take(output, length, selected, 1));
     print_held("after set 1", length, joined);
-    uint8_t joined_first = (uint8_t)order_table_value(order_table_take(output, length, scan, 1));
-    print_held("set 1, then set 0", length, (uint8_t)order_table_value(order_table_take(output, length, joined_first, 0)));
-    uint8_t sorted = (uint8_t)order_table_value(order_table_enter(output, length, 1));
+    uint8_t joined_first = (uint8_t)granted(order_table_take(output, length, scan, 1));
+    uint8_t selected_then = (uint8_t)granted(order_table_take(output, length, joined_first, 0));
+    print_held("set 1, then set 0", length, selected_then);
+    uint8_t sorted = (uint8_t)granted(order_table_enter(output, length, 1));
     print_held("sort by (b,a)", length, sorted);
-    print_held("after set 1", length, (uint8_t)order_table_value(order_table_take(output, length, sorted, 1)));
+    uint8_t sorted_joined = (uint8_t)granted(order_table_take(output, length, sorted, 1));
+    print_held("after set 1", length, sorted_joined);
 
-    uint32_t row = order_table_row(output, length, scan);
-    printf("successors of state %u: %u %u\n", scan, output[order_table_value(row)], output[order_table_value(row) + 1]);
+    uint32_t row = granted(order_table_row(output, length, scan));
+    printf("successors of state %u: %u %u\n", scan, output[row], output[row + 1]);
     printf("set 2 refused with %u\n", order_table_refusal(order_table_take(output, length, scan, 2)));
     return 0;
 }

@@ -12,7 +12,7 @@ static uint8_t query[ORDER_TABLE_LONGEST_QUERY + 1];
 static uint8_t table[ORDER_TABLE_LONGEST_TABLE + 1];
 static uint8_t scratch[ORDER_TABLE_SCRATCH];
 
-/* Reads a file's bytes, as far as there is room. Gives how many they are; none when the file cannot be read. */
+/* Reads a file's bytes, as far as there is room. Gives how many they are; none when the file cannot be read, which every check refuses. */
 static size_t read_file(const char *path, uint8_t *bytes, size_t room) {
     FILE *file = fopen(path, "rb");
     if (file == NULL) {
@@ -23,12 +23,31 @@ static size_t read_file(const char *path, uint8_t *bytes, size_t room) {
     return length;
 }
 
-/* Uses a table that was accepted: says whether a scan in (a) is in the order (a,b) after set 0. */
+/* Whether a result is refused; if so, prints with what. */
+static int refused(uint32_t result) {
+    uint32_t refusal = order_table_refusal(result);
+    if (refusal != ORDER_TABLE_GRANTED) {
+        printf("refused with %u\n", refusal);
+    }
+    return refusal != ORDER_TABLE_GRANTED;
+}
+
+/* Uses a table that was accepted: says whether a scan in (a) is in the order (a,b) after set 0. Each refusal is looked at before the value is used. */
 static void print_use(size_t length) {
-    uint8_t scan = (uint8_t)order_table_value(order_table_enter(table, length, 0));
-    uint8_t selected = (uint8_t)order_table_value(order_table_take(table, length, scan, 0));
-    const char *held = order_table_ask(table, length, selected, 2) == 1 ? "held" : "not held";
-    printf("after set 0 state %u, (a,b) %s\n", selected, held);
+    uint32_t scan = order_table_enter(table, length, 0);
+    if (refused(scan)) {
+        return;
+    }
+    uint32_t selected = order_table_take(table, length, (uint8_t)order_table_value(scan), 0);
+    if (refused(selected)) {
+        return;
+    }
+    uint8_t state = (uint8_t)order_table_value(selected);
+    uint32_t asked = order_table_ask(table, length, state, 2);
+    if (refused(asked)) {
+        return;
+    }
+    printf("after set 0 state %u, (a,b) %s\n", state, order_table_value(asked) == 1 ? "held" : "not held");
 }
 
 int main(void) {
@@ -37,12 +56,10 @@ int main(void) {
         char path[64];
         snprintf(path, sizeof path, "examples/%s.table", names[i]);
         size_t length = read_file(path, table, sizeof table);
-        uint32_t verified = order_table_verify(query, query_length, table, length, scratch, sizeof scratch);
-        if (order_table_refusal(verified) == ORDER_TABLE_GRANTED) {
-            printf("%s: accepted, ", names[i]);
+        printf("%s: ", names[i]);
+        if (!refused(order_table_verify(query, query_length, table, length, scratch, sizeof scratch))) {
+            printf("accepted, ");
             print_use(length);
-        } else {
-            printf("%s: refused with %u\n", names[i], order_table_refusal(verified));
         }
     }
     return 0;

@@ -1,18 +1,42 @@
-/* Order tables: check a query and read it, build its table, check a table, put a supplier's table on trial, look it up, list it, and show two rows
- * where an order is not held.
+/* Order tables for a query planner: check and read a query, build its table, check a table, put a supplier's table on trial, look it up, list it, and
+ * show two rows where an order is not held. For callers in C this page is the authority: what a function promises is said here and nowhere else.
  *
- * Every function returns a refusal's number and a value in one number. A refusal of 0 is none, and on refusal the value is 0. order_query_order and
- * order_query_dependency return 64 bits, the refusal in the highest 16: split these with order_query_item_refusal and order_query_item_value. All others
- * return 32 bits, the refusal in the highest 16: split those with order_table_refusal and order_table_value.
+ * Words and letters
  *
- * Buffers are lent for the call: a pointer to so many bytes. Buffers of one call must not overlap. A buffer of length 0 may be any pointer but
- * a null one. Nothing is allocated, and nothing is kept between calls.
+ * An order is a list of 0 to 4 different columns, the most significant first; in the empty order all rows stand. Operators can deliver rows in the
+ * produced orders; the tested orders are only looked for; both are interesting orders, the produced ones counted first. A dependency is a fix (rows
+ * alike in its left columns are alike in its right one; without left columns the right one is a constant) or an equal (each row has one value in both
+ * columns). It belongs to a set, and one operator brings one set. A state is a row of the table, and a plan node carries one state's number. A run is
+ * an entry by a produced order and the sets taken since; a choice is the sets in force. A set that is taken stays in force: what is held in a state is
+ * what all sets taken since the entry give together, in any order and however often each is taken.
  *
- * Handles are bytes of three kinds: interesting orders (the produced ones first, then the tested ones), sets, and states. One never stands in
- * for another. A state of a table is one of its rows. A plan node carries one state. A choice of sets is a byte too: bit i is set i.
+ *     N columns        1 to ORDER_TABLE_MAX_COLUMNS            D dependencies   0 to ORDER_TABLE_MAX_DEPENDENCIES
+ *     P produced       1 to ORDER_TABLE_MAX_PRODUCED           Q states         1 to ORDER_TABLE_MAX_STATES
+ *     T tested         0 to ORDER_TABLE_MAX_TESTED             S sets           0 to ORDER_TABLE_MAX_SETS
  *
- * A set that is taken stays in force: what holds is what all sets taken since the entry give together. So a planner may take its sets in any order,
- * and taking one again changes nothing.
+ * Handles are bytes of three kinds, each counted from 0: interesting orders below P + T, sets below S, states below Q. One never stands in for another.
+ * A choice of sets is a byte too: bit i is set i.
+ *
+ * Layouts, a byte for each value (docs/FORMAT.md has both with an example, byte by byte)
+ *
+ *     query   N, P, T, S, D; a head for each item: P + T orders, then D dependencies; then four bytes for each item, in the same sequence. An order's
+ *             head is its length, its bytes are its columns. A dependency's head is 16 * kind + set: kind 0 to 3 is a fix with so many left columns,
+ *             those and then the right one; kind 4 is an equal, two columns. Unused bytes are 255.
+ *     table   Q, P, T, S; P starts; for each state a row of S successors; for each state two bytes of held bits, the low byte first, bit i for
+ *             interesting order i, the bits from P + T on 0.
+ *
+ * Results
+ *
+ * Every function returns a refusal's number and a value in one number. A refusal of 0 is none; on refusal the value is 0, which is no state and no "not
+ * held": look at the refusal first. order_query_order and order_query_dependency return 64 bits, the refusal in the highest 16: split these with
+ * order_query_item_refusal and order_query_item_value. All others return 32 bits, the refusal in the highest 16: split those with order_table_refusal
+ * and order_table_value.
+ *
+ * Buffers and threads
+ *
+ * Buffers are lent for the call: a pointer to so many bytes. Buffers of one call must not overlap. A buffer of length 0 may be any pointer but a null
+ * one. Nothing is allocated, and nothing is kept between calls. So all calls may run at once, in any threads, each with its own buffers; bytes that
+ * calls only read may be lent to several at once while nobody writes to them.
  */
 #ifndef ORDER_TABLES_H
 #define ORDER_TABLES_H
@@ -20,9 +44,22 @@
 #include <stddef.h>
 #include <stdint.h>
 
+/* This version of the library. */
+#define ORDER_TABLES_VERSION "0.6.0"
+
 #ifdef __cplusplus
 extern "C" {
 #endif
+
+/* The most of each size. */
+enum order_table_limits {
+    ORDER_TABLE_MAX_COLUMNS = 12,      /* N, at least 1 */
+    ORDER_TABLE_MAX_PRODUCED = 8,      /* P, at least 1 */
+    ORDER_TABLE_MAX_TESTED = 8,        /* T */
+    ORDER_TABLE_MAX_SETS = 8,          /* S */
+    ORDER_TABLE_MAX_DEPENDENCIES = 16, /* D */
+    ORDER_TABLE_MAX_STATES = 128       /* Q, at least 1 */
+};
 
 /* Refusals, in the numbers and words of the refusal list. */
 enum order_table_refusals {
@@ -33,8 +70,8 @@ enum order_table_refusals {
     ORDER_TABLE_COLUMN = 4,    /* a column not below N */
     ORDER_TABLE_REPEAT = 5,    /* a column twice in one order or one dependency */
     ORDER_TABLE_TWIN = 6,      /* two equal interesting orders */
-    ORDER_TABLE_ORDERINGS = 7, /* never given any more: its number and word stay in the list */
-    ORDER_TABLE_STATES = 8,    /* the smallest table has more than 128 rows */
+    ORDER_TABLE_ORDERINGS = 7, /* never given: its number and word stay in the list */
+    ORDER_TABLE_STATES = 8,    /* the smallest table has more than ORDER_TABLE_MAX_STATES rows */
     ORDER_TABLE_SPACE = 9,     /* scratch below ORDER_TABLE_SCRATCH bytes, or output, text or rows too short */
     ORDER_TABLE_HANDLE = 10,   /* state, produced order, set, interesting order or dependency not in the table or the query */
     ORDER_TABLE_ROW = 11,      /* a start or successor that is no state of the table, or a held bit past the interesting orders */
@@ -62,6 +99,27 @@ static inline uint32_t order_query_item_refusal(uint64_t result) { return (uint3
 
 /* Its value, 48 bits; 0 when it is refused. */
 static inline uint64_t order_query_item_value(uint64_t result) { return result & 0xffffffffffff; }
+
+/* The word of a refusal's number: "granted" for 0, "unknown" for a number that is not in the list. */
+static inline const char *order_table_refusal_word(uint32_t number) {
+    switch (number) {
+    case ORDER_TABLE_GRANTED: return "granted";
+    case ORDER_TABLE_LENGTH: return "length";
+    case ORDER_TABLE_SIZE: return "size";
+    case ORDER_TABLE_ITEM: return "item";
+    case ORDER_TABLE_COLUMN: return "column";
+    case ORDER_TABLE_REPEAT: return "repeat";
+    case ORDER_TABLE_TWIN: return "twin";
+    case ORDER_TABLE_ORDERINGS: return "orderings";
+    case ORDER_TABLE_STATES: return "states";
+    case ORDER_TABLE_SPACE: return "space";
+    case ORDER_TABLE_HANDLE: return "handle";
+    case ORDER_TABLE_ROW: return "row";
+    case ORDER_TABLE_MISMATCH: return "mismatch";
+    case ORDER_TABLE_ANSWER: return "answer";
+    default: return "unknown";
+    }
+}
 
 /* The checks 1 to 6 of a query. Value: 0. Refusals: 1 to 6. A query that passes them may still be refused with 8 when it is built. */
 uint32_t order_query_check(const uint8_t *query, size_t query_length);

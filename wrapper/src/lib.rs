@@ -3,9 +3,9 @@
 //! not held. All of it is done by the proved library; here its numbers become types, so
 //! that a set can't be passed as a state.
 //!
-//! A set that is taken stays in force: what holds is what all sets taken since the
-//! entry give together. So a planner may take its sets in any order, and taking one
-//! again changes nothing.
+//! What each function promises, when it refuses and what the buffers hold afterwards is
+//! said in `include/order_tables.h`, of the function of the same name with
+//! `order_table_` or `order_query_` before it. Here each refusal is an `Err`.
 //!
 //! ```no_run
 //! # fn plan(query: &[u8]) -> Result<bool, order_tables::Refusal> {
@@ -71,33 +71,15 @@ impl HeldWord {
     }
 }
 
-/// Builds the table of a query into the output's first bytes, and gives its
-/// length. It is the smallest table with the answers of the derivation rules: two
-/// pairs of a produced order and a choice of sets in force share a row exactly when
-/// no order lookup after any run of further sets tells them apart, and [`verify`]
-/// accepts no table with fewer rows.
-///
-/// [`Refusal::States`] counts its rows, and [`Refusal::Space`] for output goes by its
-/// length. On refusal the output keeps its bytes, and those past the table always
-/// keep theirs. Once the checks 1 to 6 and the scratch length have passed, the
-/// scratch's first [`SCRATCH_BYTES`] bytes are 0 afterwards, refused or not; all
-/// others keep theirs.
+/// Builds the table of a query into the output's first bytes, and gives its length:
+/// `order_table_build`. [`SCRATCH_BYTES`] of scratch and [`LONGEST_TABLE`] of output are
+/// always enough.
 pub fn build(query: &[u8], scratch: &mut [u8], output: &mut [u8]) -> Result<usize, Refusal> {
     value(raw::table_build(query, scratch, output)).map(usize::from)
 }
 
-/// Puts a supplier's table on trial for a query. Where nothing is refused before
-/// [`Refusal::Answer`], a table is accepted exactly when, from every start and
-/// through every run of sets, its answer for each interesting order is the one
-/// that the derivation rules give. State numbers may differ from those that
-/// [`build`] gives, two rows may behave alike, and rows that no start reaches may
-/// hold anything that the form allows. An accepted table has at least as many rows
-/// as the one that [`build`] gives.
-///
-/// Refuses as [`build`] refuses the query, with [`Refusal::Space`] for scratch
-/// alone; then as [`Table::check`] refuses the table; then with
-/// [`Refusal::Mismatch`], and last with [`Refusal::Answer`]. The scratch is
-/// afterwards as [`build`] leaves it.
+/// Puts a supplier's table on trial for a query, and accepts it when every answer that a
+/// run reaches is right: `order_table_verify`.
 pub fn verify(query: &[u8], table: Table, scratch: &mut [u8]) -> Result<(), Refusal> {
     granted(raw::table_verify(query, table.bytes, scratch))
 }
@@ -112,22 +94,10 @@ pub struct TwoRows<'a> {
     pub second: &'a [u8],
 }
 
-/// Shows why an interesting order is not held of rows in a produced order under a
-/// choice of sets in force: gives two rows that stand in the produced order, obey every
-/// dependency of the sets and do not stand in the order looked for. They are given
-/// exactly when the derivation rules do not give the order, which is when
-/// [`Table::ask`] says not held after that entry and those sets, or would say so in a
-/// table with no limit on its rows. Otherwise there are none, and all rows that stand in
-/// the produced order and obey the sets stand in the order looked for.
-///
-/// Which two rows are given is not fixed. They are written into the first bytes of
-/// `rows`, of which [`TWO_ROWS_BYTES`] are always enough; the others keep theirs, and
-/// all do when there are none and on refusal. No scratch is needed, and
-/// [`Refusal::States`] never comes.
-///
-/// Refuses the query with 1 to 6; then with [`Refusal::Handle`] for an order or a chosen
-/// set that is not in the query; then with [`Refusal::Space`] for `rows` shorter than two
-/// rows of the query, whether there are two or none.
+/// Shows why an interesting order is not held of rows in a produced order under a choice
+/// of sets in force: two rows that break it, or `None` where it is held:
+/// `order_query_counterexample`. They are written into the first bytes of `rows`, of which
+/// [`TWO_ROWS_BYTES`] are always enough.
 pub fn counterexample<'a>(
     query: &[u8],
     produced: OrderHandle,
@@ -143,14 +113,9 @@ pub fn counterexample<'a>(
     Ok(shown.then_some(TwoRows { first, second }))
 }
 
-/// Writes the listing of a query, or the line that says how it is refused with 1
-/// to 6 or 8, into the text's first bytes, and gives the length of what is written.
-/// The listing's first line has the count of states, which are the table's rows.
-///
-/// Refuses only with [`Refusal::Space`]: for scratch, after the checks 1 to 6,
-/// so that a query that they refuse needs none, and for text. On refusal the text
-/// keeps its bytes, and those past what is written always keep theirs. The
-/// scratch is afterwards as [`build`] leaves it.
+/// Writes the listing of a query, or the line that says how it is refused, into the
+/// text's first bytes, and gives the length of what is written: `order_table_list`.
+/// [`LISTING_BYTES`] of text are always enough.
 pub fn list(query: &[u8], scratch: &mut [u8], text: &mut [u8]) -> Result<usize, Refusal> {
     value(raw::table_list(query, scratch, text)).map(usize::from)
 }
@@ -168,37 +133,35 @@ impl<'a> Table<'a> {
         Self { bytes }
     }
 
-    /// Checks the whole table's form.
+    /// Checks the whole table's form: `order_table_check`.
     pub fn check(self) -> Result<(), Refusal> {
         granted(raw::table_check(self.bytes))
     }
 
-    /// The state that a produced order starts in.
+    /// The state that a produced order starts in: `order_table_enter`.
     pub fn enter(self, produced: OrderHandle) -> Result<StateNumber, Refusal> {
         value(raw::table_enter(self.bytes, produced.0)).map(state)
     }
 
-    /// The state that taking a set leads to. The set stays in force: in a table that
-    /// was built, the same sets lead to the same state in any order and however
-    /// often each is taken.
+    /// The state that taking a set leads to, in which the set stays in force:
+    /// `order_table_take`.
     pub fn take(self, from: StateNumber, set: SetHandle) -> Result<StateNumber, Refusal> {
         value(raw::table_take(self.bytes, from.0, set.0)).map(state)
     }
 
-    /// Whether a state holds an interesting order.
+    /// Whether a state holds an interesting order: `order_table_ask`.
     pub fn ask(self, state: StateNumber, order: OrderHandle) -> Result<bool, Refusal> {
         value(raw::table_ask(self.bytes, state.0, order.0)).map(|held| held == 1)
     }
 
     /// A state's held bits as one word, which answers for all interesting orders at
-    /// once: an ask that is not refused says held exactly when its order's bit is 1.
-    /// In a table that passes [`Table::check`] the bits past P+T are 0; of other
-    /// tables the word comes as the table has it.
+    /// once: `order_table_word`.
     pub fn word(self, state: StateNumber) -> Result<HeldWord, Refusal> {
         value(raw::table_word(self.bytes, state.0)).map(HeldWord)
     }
 
-    /// A state's successors, one byte for each set, as they are in the table.
+    /// A state's successors, one byte for each set, as they are in the table:
+    /// `order_table_row`.
     pub fn row(self, state: StateNumber) -> Result<&'a [u8], Refusal> {
         let offset = value(raw::table_row(self.bytes, state.0))?;
         let sets = self.bytes[3];

@@ -19,7 +19,7 @@ pub struct Columns {
 }
 
 impl Columns {
-    /// The first ones of four columns. In the stead of the others is 0, so that equal
+    /// The first ones of four columns. In place of the others is 0, so that equal
     /// columns are equal.
     fn first(mut columns: [u8; MOST_COLUMNS], count: u8) -> Self {
         columns[count.into()..].fill(0);

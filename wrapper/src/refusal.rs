@@ -18,7 +18,7 @@ pub enum Refusal {
     Repeat,
     /// Two equal interesting orders.
     Twin,
-    /// Never given any more: its number and word stay in the list.
+    /// Never given: its number and word stay in the list.
     Orderings,
     /// The smallest table has more than 128 rows.
     States,

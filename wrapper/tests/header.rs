@@ -1,7 +1,7 @@
 //! The wrapper declares the functions that the header declares, with the same
-//! parameters and results, and has its refusals and sizes.
+//! parameters and results, and has its refusals and sizes. The library has its limits.
 
-use order_tables::{Refusal, LISTING_BYTES, LONGEST_QUERY, LONGEST_TABLE};
+use order_tables::{Query, Refusal, Table, LISTING_BYTES, LONGEST_QUERY, LONGEST_TABLE};
 use order_tables::{SCRATCH_BYTES, TWO_ROWS_BYTES};
 
 const HEADER: &str = include_str!("../../include/order_tables.h");
@@ -110,4 +110,59 @@ fn the_header_and_the_wrapper_have_the_same_sizes() {
     ];
     let expected = expected.map(|(name, size)| (name.to_owned(), size));
     assert_eq!(enumerated("order_table_sizes"), expected);
+}
+
+/// Whether a table of these sizes alone is refused for one of them, and not for its
+/// length.
+fn table_sizes_refused(sizes: &[u8]) -> bool {
+    match Table::new(sizes).check() {
+        Err(Refusal::Size) => true,
+        Err(Refusal::Length) => false,
+        other => panic!("{sizes:?}: {other:?}"),
+    }
+}
+
+/// The same of a query.
+fn query_sizes_refused(sizes: &[u8]) -> bool {
+    match Query::new(sizes) {
+        Err(Refusal::Size) => true,
+        Err(Refusal::Length) => false,
+        other => panic!("{sizes:?}: {other:?}"),
+    }
+}
+
+/// The most of each size pass, and one more of any does not.
+fn are_limits(most: &[u8], refused: fn(&[u8]) -> bool) {
+    assert!(!refused(most), "{most:?}");
+    for i in 0..most.len() {
+        let mut more = most.to_vec();
+        more[i] += 1;
+        assert!(refused(&more), "{more:?}");
+    }
+}
+
+#[test]
+fn the_library_has_the_limits_of_the_header() {
+    let limits = enumerated("order_table_limits");
+    let names = [
+        "COLUMNS",
+        "PRODUCED",
+        "TESTED",
+        "SETS",
+        "DEPENDENCIES",
+        "STATES",
+    ];
+    let expected = names.map(|name| format!("MAX_{name}"));
+    let given: Vec<&String> = limits.iter().map(|(name, _)| name).collect();
+    assert_eq!(given, expected.iter().collect::<Vec<_>>());
+    let [columns, produced, tested, sets, dependencies, states] = limits
+        .iter()
+        .map(|(_, most)| *most as u8)
+        .collect::<Vec<_>>()[..]
+    else {
+        panic!("{limits:?}")
+    };
+    let query = [columns, produced, tested, sets, dependencies];
+    are_limits(&query, query_sizes_refused);
+    are_limits(&[states, produced, tested, sets], table_sizes_refused);
 }
