@@ -1,4 +1,4 @@
-//! The bytes of a replay: a list of lookups, and the answers in its stead.
+//! The bytes of a replay: a list of lookups, and the answers in its place.
 
 use reference::lookups::{Answer, Lookup};
 
@@ -15,7 +15,7 @@ pub fn lookup_bytes(lookups: &[Lookup]) -> Vec<u8> {
         .collect()
 }
 
-/// The answers that a replay has put in the stead of these lookups: of each the
+/// The answers that a replay has put in place of these lookups: of each the
 /// refusal, then the value.
 pub fn replayed_answers(lookups: &[Lookup], replayed: &[u8]) -> Vec<Answer> {
     let pairs = replayed.chunks_exact(2).map(|pair| (pair[0], pair[1]));

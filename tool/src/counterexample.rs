@@ -156,7 +156,7 @@ fn find_order<'q>(
         })
 }
 
-/// The places of some sets among the query's, each once, or what would do in the stead of
+/// The places of some sets among the query's, each once, or what would do in place of
 /// one that is none.
 fn find_sets(query: &Query, names: &[String]) -> Result<Vec<usize>, String> {
     let mut sets = Vec::new();

@@ -8,7 +8,7 @@ use crate::words::joined;
 
 /// A query's table in words: from each produced order the states that it leads to, each
 /// with the shortest run of sets and the orders that it holds; what each set adds to the
-/// held orders of each state; and the orders that no run holds.
+/// held orders of each state; and the orders that are never held.
 pub fn explain(states: States) -> String {
     let mut lines = vec![sizes(states)];
     for (produced, order) in states.produced() {
@@ -75,6 +75,7 @@ fn never_held(states: States) -> String {
     let somewhere = words.fold(0, |held, word| held | word.0);
     match &states.held(HeldWord(!somewhere))[..] {
         [] => "Every order is held after some run.".to_owned(),
-        never => format!("No run holds {}.", joined(never, "or")),
+        [never] => format!("{never} is never held."),
+        never => format!("{} are never held.", joined(never, "and")),
     }
 }

@@ -43,8 +43,8 @@ gets the names a, b, .. and s0, s1, ..; a text keeps its own and loses its comme
 const EXPLAIN: &str = "\
 Builds the table of the query in FILE and tells it in words: from each produced order
 the states that runs of sets lead to, each with its shortest run and the orders that it
-holds; what each set adds to the orders that each state holds; and the orders that no
-run holds. Of equally short runs it shows the one with the smaller set numbers.
+holds; what each set adds to the orders that each state holds; and the orders that are
+never held. Of equally short runs it shows the one with the smaller set numbers.
 ";
 const DRAW: &str = "\
 Builds the table of the query in FILE and prints its states as a graph: a box for each

@@ -5,7 +5,7 @@ use crate::words::{joined, quoted};
 /// The most names that are told where none is near.
 const MOST_TOLD: usize = 12;
 
-/// What would do in the stead of a name that is not known: the near ones; or else any that
+/// What would do in place of a name that is not known: the near ones; or else any that
 /// is known, or what is said here.
 pub fn one_of(name: &str, known: &[impl AsRef<str>], or: Option<&str>) -> String {
     let mut told: Vec<String> = nearest(name, known).iter().map(quoted).collect();

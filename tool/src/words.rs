@@ -26,7 +26,7 @@ pub fn is_shown(character: char) -> bool {
     matches!(character, ' '..='~') || !character.is_ascii() && character.is_alphanumeric()
 }
 
-/// A text with another sign in the stead of each character that does not show as itself.
+/// A text with another sign in place of each character that does not show as itself.
 pub fn printable(text: &str) -> String {
     let shown = |character| match is_shown(character) {
         true => character,

@@ -102,6 +102,33 @@ fn encodes_and_decodes() {
     assert_eq!(run(&["decode", TEXT]), Ended::printing(text));
 }
 
+/// What FORMAT writes for SQL is a text's lines, one query in all for each row.
+#[test]
+fn encodes_the_lines_for_sql() {
+    let format = String::from_utf8(file("docs/FORMAT.md")).expect("the page is text");
+    let (_, sql) = format
+        .split_once("\n## From SQL to a query\n")
+        .expect("the section is there");
+    let rows = sql.lines().filter(|line| line.starts_with("| `"));
+    let mut encoded = 0;
+    for row in rows {
+        let quoted: Vec<&str> = row.split('`').skip(1).step_by(2).collect();
+        let lines: Vec<&str> = quoted
+            .into_iter()
+            .filter(|q| q.starts_with("set "))
+            .collect();
+        assert!(!lines.is_empty(), "{row}");
+        let columns = "columns t.id t.time t.axis u.code u.name total";
+        let text = format!("{columns}\nproduced (t.time)\n{}\n", lines.join("\n"));
+        let ended = run_with(&["encode", "-"], text.as_bytes());
+        assert_eq!((ended.status, &ended.errors[..]), (0, ""), "{text}");
+        // Five sizes, and five bytes for the order and each line.
+        assert_eq!(ended.output.len(), 5 + 5 * (1 + lines.len()), "{text}");
+        encoded += 1;
+    }
+    assert_eq!(encoded, 7);
+}
+
 #[test]
 fn verifies() {
     let accepted = Ended::printing("accepted\n");

@@ -75,9 +75,11 @@ impl Expected {
             text.extend(states);
         }
         let ever = self.held.values().fold(0, |ever, word| ever | word);
-        text += &match listed(orders_in(query, !ever), "or") {
-            none if none.is_empty() => "\nEvery order is held after some run.\n".to_owned(),
-            never => format!("\nNo run holds {never}.\n"),
+        let never = orders_in(query, !ever);
+        text += &match never.len() {
+            0 => "\nEvery order is held after some run.\n".to_owned(),
+            1 => format!("\n{} is never held.\n", listed(never, "and")),
+            _ => format!("\n{} are never held.\n", listed(never, "and")),
         };
         text
     }
@@ -202,7 +204,8 @@ fn tables_in_words() {
         " changes nothing.\n",
         " change nothing.\n",
         "\nThere are no sets.\n",
-        "\nNo run holds ",
+        " is never held.\n",
+        " are never held.\n",
         "\nEvery order is held after some run.\n",
     ] {
         let said = printed.iter().filter(|(given, _)| given.contains(words));
