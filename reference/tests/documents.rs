@@ -1,6 +1,7 @@
-//! What the examples and the documents quote of trials is what these say, and
-//! what the README quotes of an example stands there.
+//! What the documents quote stands where they say: of trials, examples, the crates, the
+//! map of the scratch, the kit and the landings.
 
+use std::collections::{BTreeMap, BTreeSet};
 use std::fs;
 
 use reference::buffers::SCRATCH_BYTES;
@@ -141,9 +142,10 @@ fn commands(section: &str) -> Vec<(Vec<&str>, String)> {
 }
 
 #[test]
-fn the_readme_shows_how_the_example_tables_come_out() {
-    let readme = document("README.md");
-    let commands = commands(section(&readme, "A supplier's table on trial"));
+fn the_programs_page_shows_how_the_example_tables_come_out() {
+    let programs = document("docs/PROGRAMS.md");
+    let shown = section(&programs, "`order_verify`: a supplier's table on trial");
+    let commands = commands(shown);
     for (command, printed) in &commands {
         match command[..] {
             ["target/bin/order_verify", query, table] => {
@@ -159,9 +161,10 @@ fn the_readme_shows_how_the_example_tables_come_out() {
 }
 
 #[test]
-fn the_readme_shows_rows_that_break_the_order_and_where_there_are_none() {
-    let readme = document("README.md");
-    let commands = commands(section(&readme, "Two rows that show why a sort is needed"));
+fn the_programs_page_shows_rows_that_break_the_order_and_where_there_are_none() {
+    let programs = document("docs/PROGRAMS.md");
+    let heading = "`order_counterexample`: two rows that show why a sort is needed";
+    let commands = commands(section(&programs, heading));
     for (command, printed) in &commands {
         match command[..] {
             ["target/bin/order_counterexample", query, produced, sets, order] => {
@@ -178,17 +181,12 @@ fn the_readme_shows_rows_that_break_the_order_and_where_there_are_none() {
 }
 
 #[test]
-fn the_readme_has_the_listing_and_the_query() {
-    let example = trials::example();
-    let readme = document("README.md");
-    let listed =
-        "$ target/release/order_tables encode examples/first.txt | target/bin/order_listing";
-    let quoted = format!("\n{listed}\n{}$ ", example.listing());
-    assert!(section(&readme, "A first query").contains(&quoted));
-    let bytes = section(&readme, "The first query, byte by byte");
-    let length = format!("`examples/first.query` has {} bytes,", example.query.len());
-    assert!(bytes.contains(&length));
-    assert_eq!(quoted_bytes(bytes), example.query);
+fn the_programs_page_has_the_listing() {
+    let programs = document("docs/PROGRAMS.md");
+    let shown = section(&programs, "`order_listing`: a table's numbers");
+    let command = "$ ./order_tables encode examples/first.txt | target/bin/order_listing";
+    let quoted = format!("\n{command}\n{}```\n", trials::example().listing());
+    assert!(shown.contains(&quoted));
 }
 
 #[test]
@@ -205,7 +203,7 @@ fn the_example_has_the_lines_that_the_readme_quotes() {
 #[test]
 fn the_trials_that_documents_link_to_are_there() {
     let mut links = 0;
-    for path in ["README.md", "docs/FORMAT.md"] {
+    for path in ["docs/ARCHITECTURE.md", "docs/FORMAT.md", "docs/PROGRAMS.md"] {
         let document = document(path);
         let targets = document.split("](").skip(1);
         let targets = targets.filter_map(|rest| rest.split(')').next());
@@ -266,4 +264,93 @@ fn the_benchmarks_have_the_counts() {
         assert_eq!(row[1..], expected, "trial {name}");
     }
     assert_eq!(figures.len(), 4);
+}
+
+#[test]
+fn the_readme_is_short_and_names_the_kit() {
+    let readme = document("README.md");
+    assert!(readme.lines().count() <= 150);
+    assert!(readme.contains(&format!("`{}`", document("KIT").trim_end())));
+    let first = readme
+        .lines()
+        .filter_map(|line| line.strip_prefix("    ./"));
+    let expected = ["order_tables explain examples/first.txt", "check.sh"];
+    assert_eq!(first.take(2).collect::<Vec<_>>(), expected);
+}
+
+/// The words of a cell, each in backquotes.
+fn quoted(cell: &str) -> BTreeSet<&str> {
+    cell.split('`').skip(1).step_by(2).collect()
+}
+
+#[test]
+fn the_architecture_lists_the_crates() {
+    let listed = document("crates.txt");
+    let listed = listed.lines().filter(|line| !line.starts_with('#'));
+    let listed: Vec<(&str, BTreeSet<&str>)> = listed
+        .filter_map(|line| line.split_once(':'))
+        .map(|(name, others)| (name, others.split_whitespace().collect()))
+        .collect();
+
+    // What the crates of a line depend on counts too, and these stand above it.
+    let architecture = document("docs/ARCHITECTURE.md");
+    let mut all: BTreeMap<&str, BTreeSet<&str>> = BTreeMap::new();
+    let mut described = Vec::new();
+    for row in rows(section(&architecture, "The crates")) {
+        let [name, about, named] = row[..] else {
+            panic!("{row:?}")
+        };
+        assert!(!about.is_empty(), "{name}");
+        let name = quoted(name).pop_first().expect("the row names a crate");
+        let named = quoted(named);
+        let below = named.iter().filter_map(|other| all.get(other)).flatten();
+        let below: BTreeSet<&str> = below.chain(&named).copied().collect();
+        all.insert(name, below.clone());
+        described.push((name, below));
+    }
+    assert_eq!(described, listed);
+}
+
+#[test]
+fn the_architecture_has_the_map_of_the_scratch() {
+    let architecture = document("docs/ARCHITECTURE.md");
+    let map = rows(section(&architecture, "The map of the scratch"));
+    let drawn: Vec<String> = map
+        .filter(|row| row[1].starts_with('`'))
+        .map(|row| format!("{}: usize = {}", row[1].trim_matches('`'), row[0]))
+        .collect();
+    let numbers = document("crates/numbers/src/scratch.rt");
+    let named = numbers.lines().filter_map(|line| {
+        let constant = line.strip_prefix("pub const ")?.strip_suffix(';')?;
+        constant.contains("_PART:").then(|| constant.to_owned())
+    });
+    assert_eq!(drawn, named.collect::<Vec<_>>());
+}
+
+#[test]
+fn each_landing_has_a_short_note() {
+    let changes = document("docs/CHANGES.md");
+    let notes: Vec<&str> = changes.split("\n## ").skip(1).collect();
+    let headings: Vec<&str> = notes
+        .iter()
+        .filter_map(|note| note.lines().next())
+        .collect();
+    let mut requests = headings
+        .iter()
+        .filter(|heading| heading.starts_with("Req "));
+    for (number, heading) in (1..).zip(requests.by_ref().take(6)) {
+        assert!(
+            heading.starts_with(&format!("Req 0{number}: ")),
+            "{heading}"
+        );
+    }
+    let different: BTreeSet<&str> = headings.iter().copied().collect();
+    assert_eq!(different.len(), headings.len());
+    for (note, heading) in notes.iter().zip(headings) {
+        assert!(note.lines().count() <= 40, "{heading}");
+        let words = note.to_lowercase();
+        for word in ["moved", "stayed", "before", "after"] {
+            assert!(words.contains(word), "{heading}: {word}");
+        }
+    }
 }
