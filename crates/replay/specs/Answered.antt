@@ -14,7 +14,7 @@ pub record Gives (a : Answer) (state : ℕ) (r : Answered) : Type 0 where
   pub value-is : r .value ≡ a .value
   pub state-is : r .next .state .0 ≡ state
 
--- The lookup at place i of a buffer, and the buffer with its answer's two bytes in its stead.
+-- The lookup at place i of a buffer, and the buffer with its answer's two bytes in its place.
 abbrev pub lookupAt : Bytes → ℕ → Lookup
 lookupAt b i = lookupOf (getD b i 0) (getD b (i + 1) 0)
 

@@ -89,7 +89,7 @@ pub data Change (rs : List Rule) (p : Order) : Order → Order → Type 0 where
   insert : {e : ℕ} {s : Order} → Given rs (columns p) (column e) → ¬ List·Memᴰ (column e) (columns p) → ¬ List·Memᴰ (column e) (columns s) → Change rs p s (e ∷ s)
   -- Equal a, b, where b occurs nowhere: b goes in directly before a, ..
   before : {a b : ℕ} {s : Order} → Same rs (column a) (column b) → ¬ List·Memᴰ (column b) (columns p) → ¬ List·Memᴰ (column b) (columns (a ∷ s)) → Change rs p (a ∷ s) (b ∷ a ∷ s)
-  -- .. or in the stead of a.
+  -- .. or in place of a.
   instead : {a b : ℕ} {s : Order} → Same rs (column a) (column b) → ¬ List·Memᴰ (column b) (columns p) → ¬ List·Memᴰ (column b) (columns (a ∷ s)) → Change rs p (a ∷ s) (b ∷ s)
   -- Document 02, Req 05: the columns of p give the entry's column, a fix by its left columns or an equal column, and the entry is taken out.
   remove : {e : ℕ} {s : Order} → Given rs (columns p) (column e) → Change rs p (e ∷ s) s
