@@ -121,7 +121,8 @@ static inline const char *order_table_refusal_word(uint32_t number) {
     }
 }
 
-/* The checks 1 to 6 of a query. Value: 0. Refusals: 1 to 6. A query that passes them may still be refused with 8 when it is built. */
+/* The checks 1 to 6 of a query. Value: 0. Refusals, in this order: 1 for fewer than five bytes; 2; 1 for another total than the sizes imply; then 3, 4 and 5
+ * of each item in turn; then 6. A query that passes them may still be refused with 8 when it is built. */
 uint32_t order_query_check(const uint8_t *query, size_t query_length);
 
 /* Interesting order i of a query. Value: its length in the lowest byte, then its columns, a byte each, the first one lowest, and 0 above them.
@@ -138,8 +139,8 @@ uint64_t order_query_dependency(const uint8_t *query, size_t query_length, uint8
  * second one compares below the first. They are written exactly when the derivation rules do not give the order: when order_table_ask says not held
  * after that entry and those sets, or would say so in a table with no limit on its rows. Where there are none, all rows that stand in the produced
  * order and obey the sets stand in the order looked for.
- * A row is N bytes, a value for each column, 0 or 1. The two rows fill the first 2 times N bytes of the buffer, one behind the other; any two that are
- * as said may come. The bytes past them keep theirs, and all do where there are none and on refusal.
+ * A row is N bytes, a value for each column, 0 or 1. The two rows fill the first 2 times N bytes of the buffer, one behind the other. Which two come is not
+ * fixed. The bytes past them keep their values, and all do where there are none and on refusal.
  * Refusals, in this order: 1 to 6; 10 when the produced order is not below P, the interesting order is not below P + T, or a bit of the choice that is
  * not below S is 1; 9 when the buffer is shorter than 2 times N bytes, whether there are two rows or none. 8 never comes, and no scratch is needed. */
 uint32_t order_query_counterexample(const uint8_t *query, size_t query_length, uint8_t produced, uint8_t sets, uint8_t order, uint8_t *rows,
@@ -162,7 +163,8 @@ uint32_t order_table_build(const uint8_t *query, size_t query_length, uint8_t *s
 uint32_t order_table_replay(const uint8_t *query, size_t query_length, uint8_t *scratch, size_t scratch_length, uint8_t *output,
                             size_t output_length, uint8_t *lookups, size_t lookups_length);
 
-/* Checks a table's form. Value: 0. Refusals: 1, 2, 11. A table that was built and not written to since passes. */
+/* Checks a table's form. Value: 0. Refusals, in this order: 1 for fewer than four bytes; 2; 1 for another total than the sizes imply; 11. A table that was
+ * built and not written to since passes. */
 uint32_t order_table_check(const uint8_t *table, size_t table_length);
 
 /* Puts a supplier's table on trial for a query. Value: 0, so that an accepted table gives the result 0. Where no refusal before 13 comes, a table is
@@ -176,6 +178,9 @@ uint32_t order_table_check(const uint8_t *table, size_t table_length);
 uint32_t order_table_verify(const uint8_t *query, size_t query_length, const uint8_t *table, size_t table_length, uint8_t *scratch,
                             size_t scratch_length);
 
+/* The lookups take constant time and look at no more of the table than they need. Each refuses the table's sizes and length as order_table_check does, with 1,
+ * 2 and 1; then with 10 a handle that is not in the table. An entry and a take refuse with 11 where the state that they read is not below Q. */
+
 /* The state that a produced order starts in. Refusals: 1, 2, 10, 11. */
 uint32_t order_table_enter(const uint8_t *table, size_t table_length, uint8_t produced);
 
@@ -188,7 +193,7 @@ uint32_t order_table_ask(const uint8_t *table, size_t table_length, uint8_t stat
 
 /* A state's held bits as one word of 16 bits: bit i, worth 2 to the i, is interesting order i, 1 held, 0 not held. So one call answers for all
  * interesting orders of a state. An ask that is not refused says held exactly when its order's bit is 1. In a table that passes order_table_check
- * the bits past P + T are 0; of other tables the word comes as the table has it. On refusal it is 0. Refusals: 1, 2, 10. */
+ * the bits past P + T are 0; in any other table they are as the table has them. Refusals: 1, 2, 10. */
 uint32_t order_table_word(const uint8_t *table, size_t table_length, uint8_t state);
 
 /* Where in the table a state's row of successors begins, one byte for each set. Refusals: 1, 2, 10. */

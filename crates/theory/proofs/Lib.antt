@@ -8,7 +8,6 @@ pub mod PositionLaws
 pub mod RangeLaws
 pub mod RowLaws
 pub mod BitLaws
-
 -- Derivation and rows: rules and choices of sets; what is derived is true of rows; what the closure test says; the three are one (`HeldLaws`).
 pub mod RuleLaws
 pub mod ChoiceLaws
@@ -19,7 +18,6 @@ pub mod CounterexampleLaws
 pub mod FreeLaws
 pub mod DerivedLaws
 pub mod HeldLaws
-
 -- Machines and tables: the walk that numbers states, any machine and its table, two machines side by side, the smallest table, trees of answers.
 pub mod NumberingWalkLaws
 pub mod WalkLaws
@@ -29,7 +27,6 @@ pub mod MachineTable
 pub mod JointLaws
 pub mod SmallestTable
 pub mod AnswerLaws
-
 -- Bytes: refusals, a query's bytes, a table's bytes, held words.
 pub mod RefusalLaws
 pub mod QueryLaws
@@ -37,7 +34,6 @@ pub mod PassedLaws
 pub mod ReadLaws
 pub mod TableLaws
 pub mod WordLaws
-
 -- The theorems: what is built, demands 1 to 3, and what the requests of document 02 ask for.
 pub mod Faithfulness
 pub mod LookupLaw
