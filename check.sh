@@ -34,6 +34,7 @@ changed_crates() {
 
 # Proves crates and tries their must-fail edits. `rt must-fail` tries those of every crate below them too, so it runs in a copy that has no others.
 check_crates() { # CRATE..
+    rt check "$@"
     copy=$(mktemp -d)
     trap 'rm -rf "$copy"' EXIT
     cp -R crates crates.txt "$copy"
