@@ -17,7 +17,7 @@ use Rattle.theory.proofs.RowLaws.{number-fits}
 use Rattle.theory.proofs.RangeLaws.{entry-at, entry-count}
 use Rattle.theory.proofs.QueryLaws.{set-count}
 use Rattle.theory.proofs.ReadLaws.{interesting-read, produced-at}
-use Rattle.settled.specs.Masks.{rulesAt}
+use Rattle.rules_in_force.specs.Rules.{rulesAt}
 use Rattle.choices.specs.Words.{heldBits}
 
 -- what the bits from i on are, as a number

@@ -12,7 +12,7 @@ use Rattle.theory.specs.Refusals.{passed}
 use Rattle.theory.specs.Query.{Bytes, orderCount, orderAt, readQuery, queryRefusal}
 use Rattle.theory.specs.Table.{number}
 use Rattle.theory.specs.Scratch.{wordAt}
-use Rattle.settled.specs.Masks.{Prepared}
+use Rattle.closure.specs.RuleMasks.{Prepared}
 
 -- The query passed checks 1 to 6, and the test is prepared for the rules.
 pub record InForce (b : Bytes) (rs : List Rule) (left right : List ℕ) (n start : ℕ) (classes : List ℕ) : Type 0 where

@@ -3,14 +3,13 @@ mod held;
 
 use handles::OrderHandle;
 use handles::SetChoice;
-use settled::test;
 ghost use mathlib.Core.Path.{_≡_};
 ghost use Prim.Native.Nat.{_+_, _^_, _≤_, _<_};
 ghost use lib.ListN.{length};
 ghost use Rattle.theory.specs.Refusals.{passed};
 ghost use Rattle.theory.specs.Query.{producedCount, readQuery, queryRefusal};
 ghost use Rattle.theory.specs.Scratch.{workLength};
-ghost use Rattle.settled.specs.Masks.{rulesAt};
+ghost use Rattle.rules_in_force.specs.Rules.{rulesAt};
 ghost use Rattle.choices.specs.Words.{InForce, WordsBelow, WordsAre, WordsTo};
 
 // The held word of produced order p under choice x is written.
@@ -63,7 +62,7 @@ fn settle_choice(query: &[u8], work: &mut [u8], x: u8)
     let mut left = [0u16; 32];
     let mut right = [0u16; 32];
     let mut classes = [0u16; 16];
-    let ready = test::prepare(query, SetChoice(x), &mut left, &mut right, &mut classes);
+    let ready = rules_in_force::prepare(query, SetChoice(x), &mut left, &mut right, &mut classes);
     let n = ready.arrows;
     let start = ready.start;
     settle_orders(query, &left, &right, n, start, &classes, work, x);

@@ -22,7 +22,7 @@ use Rattle.byte_rows.specs.Placed.{placed}
 use Rattle.byte_rows.proofs.PlacedLaws.{placed-first}
 use Rattle.settled.specs.declared.Tested.{Tested}
 use Rattle.settled.specs.declared.Tested.the-variants as tested
-use Rattle.settled.specs.Masks.{rulesAt}
+use Rattle.rules_in_force.specs.Rules.{rulesAt}
 use Rattle.settled.specs.Ends.{rowBy, Ends}
 
 -- two rows of n columns in the first bytes

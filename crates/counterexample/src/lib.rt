@@ -13,7 +13,7 @@ ghost use Rattle.theory.specs.Tests.{Says};
 ghost use Rattle.theory.specs.Refusals.{passed};
 ghost use Rattle.theory.specs.Query.{orderCount, orderAt, readQuery, queryRefusal};
 ghost use Rattle.theory.specs.Counterexamples.{Named, Askable, Shows};
-ghost use Rattle.settled.specs.Masks.{rulesAt};
+ghost use Rattle.rules_in_force.specs.Rules.{rulesAt};
 ghost use Rattle.settled.specs.Ends.{Ends};
 ghost use Rattle.counterexample.specs.Answers.{foundAnswer, ListedFound};
 
@@ -46,7 +46,7 @@ fn tested(query: &[u8], produced: OrderHandle, sets: SetChoice, order: OrderHand
     let mut left = [0u16; 32];
     let mut right = [0u16; 32];
     let mut classes = [0u16; 16];
-    let ready = test::prepare(query, sets, &mut left, &mut right, &mut classes);
+    let ready = rules_in_force::prepare(query, sets, &mut left, &mut right, &mut classes);
     let n = ready.arrows;
     let start = ready.start;
     let p = query::order(query, produced);

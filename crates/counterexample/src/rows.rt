@@ -1,5 +1,5 @@
 // The two rows by the masks where the test stops.
-use settled::has;
+use column_masks::has;
 ghost use mathlib.Core.Path.{_≡_};
 ghost use mathlib.Core.List.{_++_};
 ghost use Prim.Native.Nat.{_+_, _*_, _<_, _≤_};

@@ -5,7 +5,7 @@ use native.Mathlib.Omega.{arith}
 use mathlib.Core.Path.{_≡_, refl, sym, _∙_, ap, ap₂, subst, subst₂}
 use mathlib.Core.Bool.{Bool, true, false, not, true≢false, false≢true}
 use mathlib.Core.Logic.{⊎-elim}
-use mathlib.Core.List.{List, [], _∷_, _++_, map, map-append, map-map, List·Memᴰ·not-nil, List·Memᴰ·append-cases, List·Memᴰ·eq-of-singleton, Memᴰ·append-left, Memᴰ·append-right, List·Memᴰ·head}
+use mathlib.Core.List.{List, [], _∷_, _++_, map, map-append, map-map, List·Memᴰ·append-cases, List·Memᴰ·eq-of-singleton, Memᴰ·append-left, Memᴰ·append-right, List·Memᴰ·head}
 use lib.Bits.{bitOr}
 use lib.Dec.{eqb}
 use lib.IntN.{pos}
@@ -21,12 +21,13 @@ use Rattle.theory.proofs.BitLaws.{raised-has, raised-keeps, raised-only}
 use Rattle.theory.proofs.RangeLaws.{map-below}
 use Rattle.theory.proofs.SettledLaws.{settled-through, says-settled}
 use Rattle.theory.proofs.CounterexampleLaws.{Past, past-none, past-more, past-both, past-front, past-met, value, bitRow, stop-at, stop-rows}
+use Rattle.column_masks.proofs.MaskLaws.{says-both}
+use Rattle.closure.specs.RuleMasks.{StandFor, SettledMask, ClassesOf, Prepared}
+use Rattle.closure.specs.Closing.{Closes}
 use Rattle.settled.specs.declared.Tested.{Tested}
 use Rattle.settled.specs.declared.Tested.the-variants as tested
-use Rattle.settled.specs.Masks.{StandFor, SettledMask, ClassesOf, Prepared}
 use Rattle.settled.specs.Ends.{valueIn, rowBy, Ends}
-use Rattle.settled.specs.Arrows.{Skipped, meets, Closes}
-use Rattle.settled.proofs.MaskLaws.{says-both, mask-none}
+use Rattle.settled.specs.Places.{Skipped, meets}
 
 -- one column more behind the first i of an order
 columns-more : (o : Order) (i : ℕ) → i < length o → columns (take (suc i) o) ≡ columns (take i o) ++ (column (getD o i 0) ∷ [])
@@ -206,10 +207,6 @@ Midway left right n start classes p o i j m = (rs : List Rule) → Prepared rs l
 -- The test ends so, under all these rules.
 abbrev pub Ended : List ℕ → List ℕ → ℕ → ℕ → List ℕ → Order → Order → Tested → Type 0
 Ended left right n start classes p o r = (rs : List Rule) → Prepared rs left right n start classes → Ends rs p o r
-
--- closed from nothing, a mask has what is settled from the start
-pub closes-none : (left right : List ℕ) (n m : ℕ) → Closes left right n 0 m → (rs : List Rule) → StandFor rs left right n → SettledMask rs [] m
-closes-none left right n m closes rs f = closes rs [] f (λ c h. among (says-true (mask-none c) h)) (λ c h. absurd (List·Memᴰ·not-nil h))
 
 module _ (left right : List ℕ) (n start : ℕ) (classes : List ℕ) (p o : Order) where
   -- the test begins, behind the entries that are settled from the start

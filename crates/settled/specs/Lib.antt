@@ -1,4 +1,3 @@
 -- What the functions of this crate promise, beside the theory.
-pub mod Masks
-pub mod Arrows
+pub mod Places
 pub mod Ends

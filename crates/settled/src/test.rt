@@ -1,23 +1,17 @@
 // The closure test. It reads the arrows, the mask at the start and the classes alone, no query, and closes a mask once for each entry that is used up but the last.
-use crate::Ready;
 use crate::Tested;
-use crate::arrows;
-use crate::close;
-use crate::masks;
-use handles::SetChoice;
 use orders::Order;
 ghost use mathlib.Core.Path.{_≡_};
 ghost use mathlib.Core.List.{List};
 ghost use Prim.Native.Nat.{_≤_, _<_};
 ghost use lib.ListN.{length};
 ghost use Rattle.theory.specs.Orders.{Rule};
-ghost use Rattle.theory.specs.Refusals.{passed};
-ghost use Rattle.theory.specs.Query.{queryRefusal};
 ghost use Rattle.theory.specs.Settled.{isHeld};
 ghost use Rattle.orders.specs.Orders.{orderOf};
-ghost use Rattle.settled.specs.Masks.{Narrow, Prepared, rulesAt};
+ghost use Rattle.column_masks.specs.Masks.{Narrow};
+ghost use Rattle.closure.specs.RuleMasks.{Prepared};
 ghost use Rattle.settled.specs.Ends.{Ends};
-ghost use Rattle.settled.specs.Arrows.{Skipped, meets};
+ghost use Rattle.settled.specs.Places.{Skipped, meets};
 
 // The first place from one on where the order has a column that the mask does not have; the length where there is none.
 fn unsettled(o: Order, from: usize, mask: u16) -> usize
@@ -27,7 +21,7 @@ fn unsettled(o: Order, from: usize, mask: u16) -> usize
     let n = orders::length(o);
     let mut i = from;
     while i < n {
-        if !masks::has(mask, orders::column(o, i)) {
+        if !column_masks::has(mask, orders::column(o, i)) {
             return i;
         }
         i += 1;
@@ -41,27 +35,10 @@ fn meets(classes: &[u16], c: u8, p: Order, at: usize) -> bool
     ensures { λ r. ⌜ r ≡ meets (now (classes .entry)) c (orderOf p) at ⌝ }
 {
     if at < orders::length(p) {
-        masks::has(classes[c as usize], orders::column(p, at))
+        column_masks::has(classes[c as usize], orders::column(p, at))
     } else {
         false
     }
-}
-
-// What the test is given for the rules in force under choice x.
-pub fn prepare(
-    query: &[u8],
-    x: SetChoice,
-    left: &mut [u16],
-    right: &mut [u16],
-    classes: &mut [u16],
-) -> Ready
-    requires { ⌜ (queryRefusal (now query) ≡ passed) × (length (now left) ≡ 32) × (length (now right) ≡ 32) × (length (now classes) ≡ 16) ⌝ }
-    ensures { λ r. ⌜ Prepared (rulesAt (now (query .entry)) (x .0)) (now (left .exit)) (now (right .exit)) (r .arrows) (r .start) (now (classes .exit)) × (r .arrows ≤ 32) × (length (now (left .exit)) ≡ 32) × (length (now (right .exit)) ≡ 32) × (length (now (classes .exit)) ≡ 16) ⌝ }
-{
-    arrows::classes(query, x.0, left, right, classes);
-    let arrows = arrows::rules(query, x.0, left, right);
-    let start = close::close(left, right, arrows, 0);
-    Ready { arrows, start }
 }
 
 // The test of order o against the produced order p. An entry of o that is settled by those before it is passed over; any other uses up the first entry of what is left of p
@@ -94,7 +71,7 @@ pub fn test(
         if i + 1 == m {
             return Tested::Held;
         }
-        mask = close::close(left, right, n, mask | masks::bit(c));
+        mask = closure::close(left, right, n, mask | column_masks::bit(c));
         i = unsettled(o, i + 1, mask);
         j += 1;
     }

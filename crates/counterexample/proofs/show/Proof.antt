@@ -5,7 +5,7 @@ use mathlib.Core.Path.{_≡_, sym, _∙_, subst}
 use denote.Ref.{now}
 use Rattle.theory.specs.Query.{orderAt}
 use Rattle.theory.proofs.QueryLaws.{query-sizes, column-count, produced-count, order-count}
-use Rattle.settled.specs.Masks.{rulesAt}
+use Rattle.rules_in_force.specs.Rules.{rulesAt}
 use Rattle.settled.specs.Ends.{Ends}
 use Rattle.counterexample.proofs.ShowLaws.{held-shows, stop-shows}
 use Rattle.counterexample.proofs.show.Statement.{statement}

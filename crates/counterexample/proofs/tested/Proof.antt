@@ -3,9 +3,9 @@ use native.Mathlib.Omega.{arith}
 use mathlib.Core.Path.{subst₂}
 use denote.Ref.{now}
 use borrow.Author.Needs.{needs}
-use Rattle.settled.specs.Masks.{rulesAt}
+use Rattle.rules_in_force.specs.Rules.{rulesAt}
 use Rattle.settled.specs.Ends.{Ends}
-use Rattle.settled.proofs.MaskLaws.{order-narrow}
+use Rattle.column_masks.proofs.MaskLaws.{order-narrow}
 use Rattle.counterexample.proofs.tested.Statement.{statement}
 use Rattle.counterexample.proofs.tested.Tie as tie
 

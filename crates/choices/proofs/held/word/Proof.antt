@@ -12,7 +12,7 @@ use Rattle.theory.specs.Table.{bit, number}
 use Rattle.theory.specs.Query.{orderCount, orderAt}
 use Rattle.theory.proofs.PassedLaws.{query-passed}
 use Rattle.choices.specs.Words.{InForce, heldBits}
-use Rattle.settled.proofs.MaskLaws.{order-narrow}
+use Rattle.column_masks.proofs.MaskLaws.{order-narrow}
 use Rattle.choices.proofs.HeldLaws.{number-none, number-more, number-room}
 use Rattle.choices.proofs.held.word.Statement.{statement}
 use Rattle.choices.proofs.held.word.Tie as tie

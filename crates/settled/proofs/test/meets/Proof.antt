@@ -7,7 +7,7 @@ use borrow.Author.Needs.{needs}
 use Rattle.theory.specs.Tests.{inMask}
 use Rattle.theory.proofs.Picks.{pick-yes, pick-no}
 use Rattle.orders.specs.Orders.{orderOf}
-use Rattle.settled.proofs.MaskLaws.{narrow-at}
+use Rattle.column_masks.proofs.MaskLaws.{narrow-at}
 use Rattle.settled.proofs.test.meets.Statement.{statement}
 use Rattle.settled.proofs.test.meets.Tie as tie
 

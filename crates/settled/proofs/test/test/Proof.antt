@@ -9,7 +9,7 @@ use borrow.Author.Needs.{needs}
 use borrow.Author.Tests.{not-true, not-false}
 use Rattle.orders.specs.Orders.{orderOf}
 use Rattle.settled.specs.declared.Tested.the-variants as tested
-use Rattle.settled.specs.Arrows.{Closes}
+use Rattle.closure.specs.Closing.{Closes}
 use Rattle.settled.proofs.TestLaws.{Ended, midway-begins, midway-next, midway-fails, midway-last, midway-end, meets-there}
 use Rattle.settled.proofs.test.test.Proof.Turn.{Inv-loop, μ-loop, entry, turn, begun, read, met, short, inside, narrow, comparison}
 use Rattle.settled.proofs.test.test.Statement.{statement}

@@ -10,7 +10,7 @@ use borrow.Author.Count.{below-more}
 use borrow.Author.Tests.{not-true, not-false}
 use Rattle.theory.specs.Tests.{inMask}
 use Rattle.orders.specs.Orders.{orderOf}
-use Rattle.settled.proofs.MaskLaws.{narrow-at}
+use Rattle.column_masks.proofs.MaskLaws.{narrow-at}
 use Rattle.settled.proofs.test.unsettled.Statement.{statement}
 use Rattle.settled.proofs.test.unsettled.Tie as tie
 

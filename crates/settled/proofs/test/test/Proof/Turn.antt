@@ -7,8 +7,8 @@ use lib.ListN.{length-take, length, getD}
 use borrow.Author.Needs.{needs}
 use Rattle.theory.specs.Tests.{inMask}
 use Rattle.orders.specs.Orders.{orderOf}
-use Rattle.settled.specs.Arrows.{meets}
-use Rattle.settled.proofs.MaskLaws.{narrow-at}
+use Rattle.settled.specs.Places.{meets}
+use Rattle.column_masks.proofs.MaskLaws.{narrow-at}
 use Rattle.settled.proofs.TestLaws.{Midway}
 use Rattle.settled.proofs.test.test.Tie as tie
 

@@ -1,0 +1,3 @@
+-- What the functions of this crate promise, beside the theory.
+pub mod RuleMasks
+pub mod Closing
