@@ -16,9 +16,10 @@ use Rattle.theory.specs.Table.{heldBytes, tableOf, walkedTable}
 use Rattle.theory.proofs.RowLaws.{flatten-length}
 use Rattle.theory.proofs.MachineTable as table
 use Rattle.byte_rows.proofs.PlacedLaws.{part-behind, part-placed}
+use Rattle.row_search.specs.RowStates.{rowState, rowStates}
+use Rattle.row_search.proofs.FindLaws.{rows-count}
 use Rattle.table_rows.specs.Rows.{RowsFound}
-use Rattle.table_rows.specs.Walk.{rowState, rowStates, machineOf, statesOf, RowsVisited, Walked}
-use Rattle.table_rows.proofs.FindLaws.{rows-count}
+use Rattle.table_rows.specs.Walk.{machineOf, statesOf, RowsVisited, Walked}
 use Rattle.table_rows.proofs.WalkLaws.{visited-all}
 use Rattle.table_rows.proofs.WordTables.{rows-front}
 use Rattle.table_rows.proofs.HeldLaws.{heldRows, holding, held-length, holding-length}

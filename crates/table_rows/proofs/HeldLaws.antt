@@ -15,7 +15,10 @@ use Rattle.theory.proofs.RowLaws.{flatten-length}
 use Rattle.theory.proofs.RangeLaws.{entry-count, flatten-more}
 use Rattle.byte_rows.specs.Placed.{placed}
 use Rattle.byte_rows.proofs.PlacedLaws.{placed-none, placed-length, placed-more, part-before, byte-behind}
-use Rattle.table_rows.specs.Walk.{stateOf, rowPlace, rowState, heldRow}
+use Rattle.open_sets.specs.Open.{stateOf}
+use Rattle.row_pairs.specs.RowPairs.{rowPlace}
+use Rattle.row_search.specs.RowStates.{rowState}
+use Rattle.table_rows.specs.Walk.{heldRow}
 
 module _ (bits sets : ℕ) (work : Bytes) where
   -- the held bytes of the first n rows, and the scratch with them

@@ -17,8 +17,11 @@ use Rattle.theory.proofs.AnswerLaws.{decides-tree}
 use Rattle.byte_rows.specs.Placed.{placed}
 use Rattle.byte_rows.proofs.PlacedLaws.{placed-length, part-before, byte-before, byte-behind}
 use Rattle.pair_words.proofs.PairWords.{byte-placed}
-use Rattle.table_rows.specs.Walk.{stateOf, OpenSets, rowPlace, rowState, rowStates, Opened, Whole, Pairs, Wholes, Numbering}
-use Rattle.table_rows.proofs.FindLaws.{rows-count}
+use Rattle.open_sets.specs.Open.{stateOf, OpenSets, Opened}
+use Rattle.row_pairs.specs.RowPairs.{rowPlace, Pairs}
+use Rattle.row_search.specs.RowStates.{rowState, rowStates, Whole, Wholes}
+use Rattle.row_search.proofs.FindLaws.{rows-count}
+use Rattle.table_rows.specs.Walk.{Numbering}
 
 -- the open sets lie behind all that is written while rows are numbered
 pub opened-kept : (n bits sets : ℕ) (work after : Bytes) → take heldPart after ≡ take heldPart work → ((k : ℕ) → openPart ≤ k → byteAt after k ≡ byteAt work k) →

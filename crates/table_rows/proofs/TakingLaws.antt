@@ -19,9 +19,12 @@ use Rattle.theory.proofs.ListLaws.{prefix-getD, prefix-length}
 use Rattle.theory.proofs.RowLaws.{entry-of-flatten}
 use Rattle.theory.proofs.WalkLaws.{walk-more}
 use Rattle.theory.proofs.MachineTable as table
-use Rattle.table_rows.specs.Walk.{stateOf, rowPlace, rowState, rowStates, Numbering, machineOf, statesOf, walkOn, RowsVisited, Visiting, Taking, Walked}
-use Rattle.table_rows.proofs.StateLaws.{state-next}
-use Rattle.table_rows.proofs.FindLaws.{rows-count, rows-at}
+use Rattle.open_sets.specs.Open.{stateOf}
+use Rattle.open_sets.proofs.StateLaws.{state-next}
+use Rattle.row_pairs.specs.RowPairs.{rowPlace}
+use Rattle.row_search.specs.RowStates.{rowState, rowStates}
+use Rattle.row_search.proofs.FindLaws.{rows-count, rows-at}
+use Rattle.table_rows.specs.Walk.{Numbering, machineOf, statesOf, walkOn, RowsVisited, Visiting, Taking, Walked}
 use Rattle.table_rows.proofs.WalkLaws.{slot-bound, ahead-prefix, joined, joined-number, joined-over, stored-successor}
 
 module _ (z : Sizes) (words : Bytes) where

@@ -22,8 +22,11 @@ use Rattle.theory.proofs.NumberingWalkLaws.{addAll-keeps, addAll-has, walk-keep
 use Rattle.theory.proofs.WalkLaws.{walk-end}
 use Rattle.theory.proofs.MachineTable as table
 use Rattle.theory.proofs.AnswerLaws.{decides-tree}
-use Rattle.table_rows.specs.Walk.{rowPlace, rowStates, Opened, Numbering, machineOf, statesOf, walkOn, RowsWalking, Starting, RowsVisited}
-use Rattle.table_rows.proofs.FindLaws.{rows-count}
+use Rattle.open_sets.specs.Open.{Opened}
+use Rattle.row_pairs.specs.RowPairs.{rowPlace}
+use Rattle.row_search.specs.RowStates.{rowStates}
+use Rattle.row_search.proofs.FindLaws.{rows-count}
+use Rattle.table_rows.specs.Walk.{Numbering, machineOf, statesOf, walkOn, RowsWalking, Starting, RowsVisited}
 use Rattle.table_rows.proofs.NumberLaws.{rows-kept, pairs-kept, wholes-kept}
 
 -- of what f gives from number s on, that at s comes first

@@ -1,4 +1,3 @@
 -- What the functions of this crate promise, beside the theory.
 pub mod Rows
 pub mod Walk
-pub mod Open

@@ -1,63 +1,19 @@
--- What the functions that number rows promise. While rows are numbered, row i is a pair of bytes: a produced order and the number of a choice of sets in force that
--- give it. A count of 129 stands for more rows than there is room for.
-use Prim.Native.Nat.{ℕ, suc, _+_, _*_, _-_, _%_, _^_, _≤_, _<_}
+-- What the functions that number rows promise. A count of 129 stands for more rows than there is room for.
+use Prim.Native.Nat.{ℕ, suc, _+_, _*_, _-_, _^_, _≤_, _<_}
 use mathlib.Core.Path.{_≡_}
-use mathlib.Core.Bool.{true, false}
 use mathlib.Core.List.{List, [], map, flatten}
-use lib.Bits.{bitOr}
 use lib.ListN.{length, take, getD}
-use Rattle.theory.specs.Tests.{position, upFrom, bitsOf, inMask}
-use Rattle.theory.specs.Limits.{maxProduced, maxStates, heldWidth}
+use Rattle.theory.specs.Tests.{position, upFrom}
+use Rattle.theory.specs.Limits.{maxStates}
 use Rattle.theory.specs.NumberingWalk.{add, addAll, walk}
 use Rattle.theory.specs.Machine.{Sizes, Machine, numberedWithin}
-use Rattle.theory.specs.AnswerTree.{AnswerTree, treeBy, takeTree, heldNow, sameTree}
+use Rattle.theory.specs.AnswerTree.{AnswerTree, takeTree, heldNow, sameTree}
 use Rattle.theory.specs.Query.{Bytes, byteAt}
-use Rattle.theory.specs.Table.{number, heldBytes}
-use Rattle.theory.specs.Scratch.{wordAt, heldPart, successorsPart, startsPart, openIn, rowsMachine, rowsTable}
-
--- The word of a pair, of which so many bits count.
-abbrev pub cutWord : (bits sets : ℕ) → Bytes → ℕ → ℕ → ℕ
-cutWord bits sets words p x = wordAt sets words p x % 2 ^ bits
-
--- The state that a pair gives: what is held from produced order p with the sets of choice m and each choice of further sets in force.
-unfoldable pub stateOf : (bits sets : ℕ) → Bytes → ℕ → ℕ → AnswerTree
-stateOf bits sets words p m = treeBy sets (λ c. bitsOf bits (wordAt sets words p (bitOr m (number c))))
-
--- The sets that change the state of a pair when they are taken, as the bits of a number: *open* are those, and any other leaves the state as it is.
-pub record OpenSets (bits sets : ℕ) (words : Bytes) (p m r : ℕ) : Type 0 where
-  pub low : r < 2 ^ sets
-  pub changes : (s : ℕ) → s < sets → inMask r s ≡ true → ¬ (stateOf bits sets words p (bitOr m (2 ^ s)) ≡ stateOf bits sets words p m)
-  pub keeps : (s : ℕ) → s < sets → inMask r s ≡ false → stateOf bits sets words p (bitOr m (2 ^ s)) ≡ stateOf bits sets words p m
-
--- Where row i lies, the state that its pair gives, and the states of the first n rows.
-abbrev pub rowPlace : ℕ → ℕ
-rowPlace i = heldPart + i * heldWidth
-
-abbrev pub rowState : (bits sets : ℕ) → Bytes → ℕ → AnswerTree
-rowState bits sets work i = stateOf bits sets (take heldPart work) (byteAt work (rowPlace i)) (byteAt work (rowPlace i + 1))
-
-abbrev pub rowStates : (bits sets : ℕ) → Bytes → ℕ → List AnswerTree
-rowStates bits sets work n = map (rowState bits sets work) (upFrom 0 n)
-
--- The open sets of each pair of the first n produced orders lie in their part of the scratch.
-abbrev pub Opened : (n bits sets : ℕ) → Bytes → Bytes → Type 0
-Opened n bits sets words work = (p m : ℕ) → p < n → m < 2 ^ sets → OpenSets bits sets words p m (openIn sets work p m)
-
--- A choice is *whole* for a produced order where every set that is not open is in force: of all choices that give one state it is the largest.
-abbrev pub Whole : (sets : ℕ) → Bytes → ℕ → ℕ → Type 0
-Whole sets work p m = suc (m + openIn sets work p m) ≡ 2 ^ sets
-
--- There is room for the rows, and each is a pair.
-pub record Pairs (sets : ℕ) (work : Bytes) (count : ℕ) : Type 0 where
-  pub few : count ≤ maxStates
-  pub orders : (i : ℕ) → i < count → byteAt work (rowPlace i) < maxProduced
-  pub choices : (i : ℕ) → i < count → byteAt work (rowPlace i + 1) < 2 ^ sets
-
--- Each is a pair of one of the first n produced orders and a whole choice, and the open sets of all pairs lie in their part.
-pub record Wholes (n bits sets : ℕ) (work : Bytes) (count : ℕ) : Type 0 where
-  pub own : (i : ℕ) → i < count → byteAt work (rowPlace i) < n
-  pub whole : (i : ℕ) → i < count → Whole sets work (byteAt work (rowPlace i)) (byteAt work (rowPlace i + 1))
-  pub opened : Opened n bits sets (take heldPart work) work
+use Rattle.theory.specs.Table.{heldBytes}
+use Rattle.theory.specs.Scratch.{heldPart, successorsPart, startsPart, rowsMachine, rowsTable}
+use Rattle.open_sets.specs.Open.{stateOf}
+use Rattle.row_pairs.specs.RowPairs.{Pairs}
+use Rattle.row_search.specs.RowStates.{rowState, rowStates, Wholes}
 
 -- The state x was numbered among the first `before` rows: it kept its number, or got the next one, or there was no room.
 pub record Numbering (n bits sets : ℕ) (work after : Bytes) (x : AnswerTree) (before number count : ℕ) : Type 0 where

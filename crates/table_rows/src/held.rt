@@ -1,5 +1,4 @@
 // The rows' held words, written in the place of their pairs.
-use crate::find;
 ghost use mathlib.Core.Path.{_≡_};
 ghost use mathlib.Core.List.{map, flatten};
 ghost use Prim.Native.Nat.{_+_, _^_, _≤_, _<_};
@@ -9,7 +8,8 @@ ghost use Rattle.theory.specs.Limits.{maxProduced, maxTested, maxSets, maxState
 ghost use Rattle.theory.specs.Query.{byteAt};
 ghost use Rattle.theory.specs.Scratch.{heldPart, workLength};
 ghost use Rattle.byte_rows.specs.Placed.{placed};
-ghost use Rattle.table_rows.specs.Walk.{rowPlace, Pairs, heldRow};
+ghost use Rattle.row_pairs.specs.RowPairs.{rowPlace, Pairs};
+ghost use Rattle.table_rows.specs.Walk.{heldRow};
 use numbers::limits::HELD_WIDTH;
 use numbers::scratch::HELD_PART;
 
@@ -18,9 +18,9 @@ fn hold_row(work: &mut [u8], bits: usize, sets: usize, i: usize)
     requires { ⌜ (byteAt (now work) (rowPlace i) < maxProduced) × (byteAt (now work) (rowPlace i + 1) < 2 ^ sets) × (i < maxStates) × (bits ≤ maxProduced + maxTested) × (sets ≤ maxSets) × (workLength ≤ length (now work)) ⌝ }
     ensures { λ r. ⌜ now (work .exit) ≡ placed (rowPlace i) (heldRow bits sets (now (work .entry)) i) (now (work .entry)) ⌝ }
 {
-    let p = find::row_order(work, i);
-    let m = find::row_choice(work, i);
-    let word = find::cut_word(work, bits, sets, p, m);
+    let p = row_pairs::row_order(work, i);
+    let m = row_pairs::row_choice(work, i);
+    let word = row_pairs::cut_word(work, bits, sets, p, m);
     pair_words::put(work, HELD_PART + i * HELD_WIDTH, word as u16);
 }
 

@@ -1,12 +1,13 @@
 // A row gets its number.
-use crate::find;
-use crate::open_sets;
 ghost use mathlib.Core.Path.{_≡_};
 ghost use Prim.Native.Nat.{suc, _+_, _^_, _≤_, _<_};
 ghost use lib.ListN.{length, take};
 ghost use Rattle.theory.specs.Limits.{maxProduced, maxTested, maxSets};
 ghost use Rattle.theory.specs.Scratch.{heldPart, openIn, workLength};
-ghost use Rattle.table_rows.specs.Walk.{stateOf, Whole, Pairs, Wholes, Numbering};
+ghost use Rattle.open_sets.specs.Open.{stateOf};
+ghost use Rattle.row_pairs.specs.RowPairs.{Pairs};
+ghost use Rattle.row_search.specs.RowStates.{Whole, Wholes};
+ghost use Rattle.table_rows.specs.Walk.{Numbering};
 use numbers::limits::HELD_WIDTH;
 use numbers::limits::MAX_STATES;
 use numbers::scratch::HELD_PART;
@@ -38,7 +39,7 @@ fn number_whole(
     requires { ⌜ Pairs sets (now work) count × Wholes produced (produced + tested) sets (now work) count × (produced ≤ maxProduced) × (tested ≤ maxTested) × (sets ≤ maxSets) × (p < produced) × (k < 2 ^ sets) × Whole sets (now work) p k × (workLength ≤ length (now work)) ⌝ }
     ensures { λ r. ⌜ Numbering produced (produced + tested) sets (now (work .entry)) (now (work .exit)) (stateOf (produced + tested) sets (take heldPart (now (work .entry))) p k) count (r .number) (r .count) ⌝ }
 {
-    let number = find::find_row(work, produced, tested, sets, count, p, k);
+    let number = row_search::find_row(work, produced, tested, sets, count, p, k);
     if number < count {
         return RowNumber { number, count };
     }

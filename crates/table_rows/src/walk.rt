@@ -1,13 +1,12 @@
 // The numbering walk: the starts first; then each row, in number order, takes each set, in number order, and each new row gets the next number.
-use crate::find;
 use crate::numbered;
-use crate::open_sets;
 ghost use mathlib.Core.Path.{_≡_};
 ghost use Prim.Native.Nat.{_+_, _*_, _≤_, _<_};
 ghost use lib.ListN.{length, take};
 ghost use Rattle.theory.specs.Limits.{maxProduced, maxTested, maxSets, maxStates};
 ghost use Rattle.theory.specs.Scratch.{heldPart, successorsPart, startsPart, workLength};
-ghost use Rattle.table_rows.specs.Walk.{Opened, RowsVisited, Taking, Walked, sizesGiven};
+ghost use Rattle.open_sets.specs.Open.{Opened};
+ghost use Rattle.table_rows.specs.Walk.{RowsVisited, Taking, Walked, sizesGiven};
 use numbers::limits::MAX_STATES;
 use numbers::scratch::STARTS_PART;
 use numbers::scratch::SUCCESSORS_PART;
@@ -61,7 +60,7 @@ fn take_sets(
             sets,
             known,
             p,
-            open_sets::with_set(m, s, sets),
+            row_pairs::with_set(m, s, sets),
         );
         known = numbered.count;
         if MAX_STATES < known {
@@ -87,8 +86,8 @@ fn visit(
     requires { ⌜ RowsVisited (sizesGiven produced tested sets) (take heldPart (now work)) (now work) count i × (i < count) × (produced ≤ maxProduced) × (tested ≤ maxTested) × (sets ≤ maxSets) × (workLength ≤ length (now work)) ⌝ }
     ensures { λ r. ⌜ Walked (sizesGiven produced tested sets) (take heldPart (now (work .entry))) (now (work .exit)) r (i + 1) × (length (now (work .exit)) ≡ length (now (work .entry))) ⌝ }
 {
-    let p = find::row_order(work, i);
-    let m = find::row_choice(work, i);
+    let p = row_pairs::row_order(work, i);
+    let m = row_pairs::row_choice(work, i);
     take_sets(work, produced, tested, sets, count, i, p, m)
 }
 

@@ -6,8 +6,9 @@ use denote.Ref.{now}
 use lib.ListN.{length, take}
 use borrow.Author.Needs.{needs}
 use Rattle.theory.specs.Scratch.{heldPart, workLength}
+use Rattle.open_sets.specs.Open.{Opened}
 use Rattle.table_rows.specs.Rows.{RowsFound}
-use Rattle.table_rows.specs.Walk.{Opened, RowsVisited, Walked, sizesGiven}
+use Rattle.table_rows.specs.Walk.{RowsVisited, Walked, sizesGiven}
 use Rattle.table_rows.proofs.HeldLaws.{holding-length}
 use Rattle.table_rows.proofs.FoundLaws.{rows-over, rows-found}
 use Rattle.table_rows.proofs.number.Statement.{statement}

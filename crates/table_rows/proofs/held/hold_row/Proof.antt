@@ -8,8 +8,8 @@ use borrow.Author.Needs.{needs}
 use Rattle.theory.specs.Query.{byteAt}
 use Rattle.theory.specs.Scratch.{heldPart}
 use Rattle.byte_rows.specs.Placed.{placed}
-use Rattle.table_rows.specs.Walk.{cutWord, rowPlace}
-use Rattle.table_rows.proofs.StateLaws.{state-held}
+use Rattle.row_pairs.specs.RowPairs.{cutWord, rowPlace}
+use Rattle.open_sets.proofs.StateLaws.{state-held}
 use Rattle.table_rows.proofs.held.hold_row.Statement.{statement}
 use Rattle.table_rows.proofs.held.hold_row.Tie as tie
 

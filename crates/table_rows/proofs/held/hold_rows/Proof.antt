@@ -7,7 +7,8 @@ use lib.ListN.{length}
 use borrow.Author.Needs.{needs}
 use Rattle.theory.specs.Query.{byteAt}
 use Rattle.byte_rows.specs.Placed.{placed}
-use Rattle.table_rows.specs.Walk.{rowPlace, heldRow}
+use Rattle.row_pairs.specs.RowPairs.{rowPlace}
+use Rattle.table_rows.specs.Walk.{heldRow}
 use Rattle.table_rows.proofs.HeldLaws.{holding, holding-none, holding-length, order-kept, choice-kept, holding-more}
 use Rattle.table_rows.proofs.held.hold_rows.Statement.{statement}
 use Rattle.table_rows.proofs.held.hold_rows.Tie as tie

@@ -6,9 +6,9 @@ use denote.Ref.{now}
 use lib.ListN.{take}
 use borrow.Author.Needs.{needs}
 use Rattle.theory.specs.Scratch.{heldPart, openIn}
+use Rattle.open_sets.proofs.OpenLaws.{open-whole}
+use Rattle.row_search.proofs.FindLaws.{whole-whole}
 use Rattle.table_rows.specs.Walk.{Numbering}
-use Rattle.table_rows.proofs.OpenLaws.{open-whole}
-use Rattle.table_rows.proofs.FindLaws.{whole-whole}
 use Rattle.table_rows.proofs.numbered.number_row.Statement.{statement}
 use Rattle.table_rows.proofs.numbered.number_row.Tie as tie
 

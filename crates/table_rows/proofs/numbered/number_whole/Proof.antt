@@ -5,7 +5,7 @@ use denote.Ref.{now}
 use lib.ListN.{length-set}
 use borrow.Author.Needs.{needs}
 use Rattle.pair_words.proofs.PairWords.{choice-few, placed-two}
-use Rattle.table_rows.specs.Walk.{rowPlace}
+use Rattle.row_pairs.specs.RowPairs.{rowPlace}
 use Rattle.table_rows.proofs.NumberLaws.{numbering-known, numbering-full, numbering-new}
 use Rattle.table_rows.proofs.numbered.number_whole.Statement.{statement}
 use Rattle.table_rows.proofs.numbered.number_whole.Tie as tie

@@ -7,8 +7,9 @@ use lib.ListN.{length, take, length-set}
 use lib.Pow.{pow-pos}
 use borrow.Author.Needs.{needs}
 use Rattle.theory.specs.Scratch.{heldPart}
-use Rattle.table_rows.specs.Walk.{stateOf, machineOf, Starting, sizesGiven}
-use Rattle.table_rows.proofs.StateLaws.{state-start}
+use Rattle.open_sets.specs.Open.{stateOf}
+use Rattle.open_sets.proofs.StateLaws.{state-start}
+use Rattle.table_rows.specs.Walk.{machineOf, Starting, sizesGiven}
 use Rattle.table_rows.proofs.WalkLaws.{starting-none, starting-all, joined, joined-number, stored-start}
 use Rattle.table_rows.proofs.walk.number_starts.Statement.{statement}
 use Rattle.table_rows.proofs.walk.number_starts.Tie as tie
