@@ -1,3 +1,2 @@
 -- What the proofs of this crate share.
-pub mod TextLaws
 pub mod LineLaws

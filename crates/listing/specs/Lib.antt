@@ -1,2 +1,2 @@
--- What the contracts of this crate say of a text, beside the definitions of the crate `theory`.
-pub mod Text
+-- What the contracts of this crate say of lines, beside the definitions of the crate `theory`.
+pub mod Lines

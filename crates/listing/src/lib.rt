@@ -1,9 +1,10 @@
-// The listing of a table, written into a lent text; and words and numbers written likewise.
+// The listing of a table, and the line of a refusal, written into a lent text.
 ghost use Prim.Native.Nat.{_≤_};
 ghost use lib.ListN.{length};
 ghost use Rattle.theory.specs.Listing.{refusedLine, tableListing};
 ghost use Rattle.table.specs.Form.{Formed};
-ghost use Rattle.listing.specs.Text.{longestListing, longestRefusal, Printed};
+ghost use Rattle.text.specs.Text.{Printed};
+ghost use Rattle.listing.specs.Lines.{longestListing, longestRefusal};
 use lines::count_line;
 use lines::start_lines;
 use lines::state_lines;
@@ -11,7 +12,6 @@ use text::number;
 use text::word;
 
 mod lines;
-pub mod text;
 
 // The listing of a table; how many bytes it has. They are the first ones of the text, and the others are kept.
 pub fn list(table: &[u8], text: &mut [u8]) -> usize

@@ -4,18 +4,19 @@ ghost use lib.ListN.{length};
 ghost use Rattle.theory.specs.Table.{statesIn, producedIn};
 ghost use Rattle.theory.specs.Listing.{countLine, startLine, stateLine};
 ghost use Rattle.table.specs.Form.{Formed};
-ghost use Rattle.listing.specs.Text.{longestCount, longestStart, longestStarts, longestHeld, longestState, longestStates, Wrote, lines, heldField};
-use crate::text::number;
-use crate::text::number_of;
-use crate::text::row_numbers;
-use crate::text::spaced_number;
-use crate::text::word;
+ghost use Rattle.text.specs.Text.{Wrote};
+ghost use Rattle.listing.specs.Lines.{longestCount, longestStart, longestStarts, longestHeld, longestState, longestStates, lines, heldField};
 use handles::StateNumber;
 use numbers::limits;
 use table::held_word;
 use table::produced;
 use table::states;
 use table::successors;
+use text::number;
+use text::number_of;
+use text::row_numbers;
+use text::spaced_number;
+use text::word;
 
 // The count of states.
 pub fn count_line(table: &[u8], text: &mut [u8], at: usize) -> usize

@@ -20,7 +20,7 @@ use Rattle.theory.proofs.QueryLaws.{SizesFit, query-sizes, column-count, produc
 use Rattle.counterexample.specs.Answers.{foundAnswer, ListedFound}
 use Rattle.counterexample.specs.declared.Found.{Found}
 use Rattle.counterexample.specs.declared.Found.the-variants as found
-use Rattle.listing.specs.Text.{Printed}
+use Rattle.text.specs.Text.{Printed}
 use Rattle.order_counterexample.specs.Evidence.{noneLine, rowsText, answerText, largeLine, Small, Told, ToldOf}
 
 -- where the answer is no refusal, the query passes its checks

@@ -13,7 +13,7 @@ use Rattle.theory.specs.Listing.{refusedLine}
 use Rattle.theory.proofs.Reflect.{says-ltb}
 use Rattle.theory.proofs.TwoRows.{query-answered}
 use Rattle.query_check.proofs.FrontLaws.{query-front, long-unpassed}
-use Rattle.listing.specs.Text.{Printed}
+use Rattle.text.specs.Text.{Printed}
 use Rattle.order_counterexample.specs.Evidence.{Told, ToldOf, EvidencePrinted}
 use Rattle.order_counterexample.proofs.EvidenceLaws.{refusal-text, told-refused}
 

@@ -8,8 +8,8 @@ use lib.ListN.{length, take, drop, length-take, length-drop}
 use lib.Seq.{take-all, length-take-le}
 use Rattle.theory.specs.Query.{Bytes, byteAt}
 use Rattle.theory.specs.Listing.{decimal, spaced, lineEnd}
-use Rattle.listing.specs.Text.{Wrote, Printed}
-use Rattle.listing.proofs.TextLaws.{wrote-as, wrote-on, wrote-first}
+use Rattle.text.specs.Text.{Wrote, Printed}
+use Rattle.text.proofs.TextLaws.{wrote-as, wrote-on, wrote-first}
 use Rattle.order_counterexample.specs.Evidence.{rowLine, rowsText}
 
 -- the first value and those behind it

@@ -12,7 +12,7 @@ use Rattle.theory.specs.Table.{Answer}
 use Rattle.theory.specs.Listing.{decimal, spaced, lineEnd, refusedLine}
 use Rattle.theory.specs.Counterexamples.{Shows}
 use Rattle.decimal.specs.Words.{largeNumber}
-use Rattle.listing.specs.Text.{Printed}
+use Rattle.text.specs.Text.{Printed}
 
 -- The longest two rows: two lines of 12 values, each of three digits and a space or the end of the line.
 abbrev pub longestRows : ℕ

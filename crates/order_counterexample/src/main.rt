@@ -14,14 +14,14 @@ use input::Input;
 use libc::STDERR_FILENO;
 use libc::STDOUT_FILENO;
 use listing::refused;
-use listing::text;
 use numbers::limits::QUERY_FRONT;
 use numbers::refusals;
 ghost use Prim.Native.Nat.{_+_, _*_, _≤_};
 ghost use lib.ListN.{length};
 ghost use Rattle.theory.specs.Tests.{Says};
 ghost use Rattle.theory.specs.Limits.{maxColumns};
-ghost use Rattle.listing.specs.Text.{longestRefusal, Wrote, Printed};
+ghost use Rattle.text.specs.Text.{Wrote, Printed};
+ghost use Rattle.listing.specs.Lines.{longestRefusal};
 ghost use Rattle.order_counterexample.specs.Evidence.{longestRows, noneLine, rowLine, rowsText, largeLine, Small, Told, EvidencePrinted};
 
 // Two rows of 12 columns, and the longest text of two rows.

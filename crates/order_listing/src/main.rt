@@ -12,7 +12,7 @@ use numbers::limits::QUERY_FRONT;
 use numbers::limits::SCRATCH_LENGTH;
 ghost use Prim.Native.Nat.{_≤_};
 ghost use lib.ListN.{length};
-ghost use Rattle.listing.specs.Text.{longestListing};
+ghost use Rattle.listing.specs.Lines.{longestListing};
 ghost use Rattle.order_listing.specs.Lists.{Lists};
 
 // The listing of an input, of which its first 256 bytes are given; how many bytes of the text it takes.

@@ -4,7 +4,7 @@ use mathlib.Core.Path.{_≡_, sym, _∙_, ap, ap₂, subst}
 use Rattle.theory.specs.Limits.{scratchLength}
 use Rattle.theory.specs.Query.{Bytes}
 use Rattle.theory.specs.Verification.{verifyRefusal}
-use Rattle.listing.specs.Text.{Printed}
+use Rattle.text.specs.Text.{Printed}
 use Rattle.verify.proofs.FrontLaws.{verify-front}
 use Rattle.order_verify.specs.Verdict.{verdictLine, VerdictPrinted}
 

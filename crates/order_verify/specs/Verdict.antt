@@ -10,7 +10,7 @@ use Rattle.theory.specs.Refusals.{passed}
 use Rattle.theory.specs.Query.{Bytes}
 use Rattle.theory.specs.Listing.{refusedLine}
 use Rattle.theory.specs.Verification.{verifyRefusal}
-use Rattle.listing.specs.Text.{Printed}
+use Rattle.text.specs.Text.{Printed}
 
 -- "accepted" and the end of the line.
 abbrev pub acceptedLine : Bytes

@@ -14,7 +14,8 @@ use numbers::limits::TABLE_FRONT;
 use numbers::refusals::PASSED;
 ghost use Prim.Native.Nat.{_≤_};
 ghost use lib.ListN.{length};
-ghost use Rattle.listing.specs.Text.{longestRefusal, Printed};
+ghost use Rattle.text.specs.Text.{Printed};
+ghost use Rattle.listing.specs.Lines.{longestRefusal};
 ghost use Rattle.order_verify.specs.Verdict.{acceptedLine, verdictLine, VerdictPrinted};
 
 // The line of an accepted table; how many bytes of the text it takes.

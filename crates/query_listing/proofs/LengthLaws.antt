@@ -19,7 +19,7 @@ use Rattle.theory.proofs.ListLaws.{upFrom-length, member-upFrom, getD-member}
 use Rattle.theory.proofs.DemandThree.{Built, built-facts, built-faithful}
 use Rattle.table.specs.Form.{Formed}
 use Rattle.builder.proofs.AnswerLaws.{built-formed}
-use Rattle.listing.specs.Text.{longestListing}
+use Rattle.listing.specs.Lines.{longestListing}
 
 -- The bytes are at most so many.
 pub record Short (l : Bytes) (most : ℕ) : Type 0 where

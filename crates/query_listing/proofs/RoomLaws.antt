@@ -12,7 +12,7 @@ use Rattle.theory.specs.Limits.{scratchLength}
 use Rattle.theory.specs.Refusals.{passed}
 use Rattle.theory.specs.Query.{Bytes, queryRefusal}
 use Rattle.theory.specs.Listing.{listing}
-use Rattle.listing.specs.Text.{longestListing}
+use Rattle.listing.specs.Lines.{longestListing}
 use Rattle.query_listing.specs.Listed.{listRefusal, listedAnswer, textAfter, Listing}
 use Rattle.query_listing.specs.declared.Listed.{Listed}
 use Rattle.query_listing.proofs.LengthLaws.{listing-short}

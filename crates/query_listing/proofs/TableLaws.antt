@@ -15,7 +15,7 @@ use Rattle.theory.specs.Listing.{refusedLine, tableListing, listed, listing}
 use Rattle.theory.proofs.DemandThree.{built-facts}
 use Rattle.byte_rows.proofs.PlacedLaws.{placed-length}
 use Rattle.table.specs.Form.{Formed}
-use Rattle.listing.specs.Text.{Printed}
+use Rattle.text.specs.Text.{Printed}
 use Rattle.query_listing.specs.Listed.{Listing}
 use Rattle.builder.specs.Built.{builtAnswer}
 use Rattle.builder.proofs.AnswerLaws.{granted, built-formed}

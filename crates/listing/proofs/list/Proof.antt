@@ -1,7 +1,7 @@
 -- `listing::list` meets its contract: the count, the starts and the states, one behind the other, are the listing.
 use borrow.Author.Needs.{needs}
 use Rattle.theory.specs.Listing.{tableListing}
-use Rattle.listing.proofs.TextLaws.{wrote-on, wrote-first}
+use Rattle.text.proofs.TextLaws.{wrote-on, wrote-first}
 use Rattle.listing.proofs.list.Statement.{statement}
 use Rattle.listing.proofs.list.Tie as tie
 

@@ -1,6 +1,6 @@
 -- `listing::refused` meets its contract: its three pieces, one behind the other.
 use borrow.Author.Needs.{needs}
-use Rattle.listing.proofs.TextLaws.{wrote-on, wrote-first}
+use Rattle.text.proofs.TextLaws.{wrote-on, wrote-first}
 use Rattle.listing.proofs.refused.Statement.{statement}
 use Rattle.listing.proofs.refused.Tie as tie
 

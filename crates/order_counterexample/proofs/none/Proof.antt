@@ -1,5 +1,5 @@
 -- `order_counterexample::none` meets its contract: the word stands at the text's first place.
-use Rattle.listing.proofs.TextLaws.{wrote-first}
+use Rattle.text.proofs.TextLaws.{wrote-first}
 use borrow.Author.Needs.{needs}
 use Rattle.order_counterexample.proofs.none.Statement.{statement}
 use Rattle.order_counterexample.proofs.none.Tie as tie

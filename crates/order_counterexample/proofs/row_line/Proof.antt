@@ -1,7 +1,7 @@
 -- `order_counterexample::row_line` meets its contract: its three pieces, one behind the other.
 use native.Mathlib.Omega.{arith}
 use denote.Ref.{now}
-use Rattle.listing.proofs.TextLaws.{wrote-as, wrote-on}
+use Rattle.text.proofs.TextLaws.{wrote-as, wrote-on}
 use Rattle.order_counterexample.proofs.TextLaws.{row-pieces, rest-length}
 use borrow.Author.Needs.{needs}
 use Rattle.order_counterexample.proofs.row_line.Statement.{statement}

@@ -2,7 +2,7 @@
 use mathlib.Core.Path.{refl, _∙_}
 use denote.Ref.{now}
 use Rattle.byte_rows.proofs.PlacedLaws.{placed-row}
-use Rattle.listing.proofs.TextLaws.{wrote-first}
+use Rattle.text.proofs.TextLaws.{wrote-first}
 use Rattle.order_verify.specs.Verdict.{acceptedLine}
 use borrow.Author.Needs.{needs}
 use Rattle.order_verify.proofs.accepted.Statement.{statement}

@@ -1,7 +1,7 @@
 -- `listing::lines::count_line` meets its contract: its three pieces, one behind the other.
 use borrow.Author.Needs.{needs}
 use Rattle.theory.specs.Listing.{countLine}
-use Rattle.listing.proofs.TextLaws.{wrote-on}
+use Rattle.text.proofs.TextLaws.{wrote-on}
 use Rattle.listing.proofs.lines.count_line.Statement.{statement}
 use Rattle.listing.proofs.lines.count_line.Tie as tie
 

@@ -1,6 +1,6 @@
 -- `listing::lines::held_field` meets its contract: its three pieces, one behind the other.
 use borrow.Author.Needs.{needs}
-use Rattle.listing.proofs.TextLaws.{wrote-on}
+use Rattle.text.proofs.TextLaws.{wrote-on}
 use Rattle.listing.proofs.lines.held_field.Statement.{statement}
 use Rattle.listing.proofs.lines.held_field.Tie as tie
 

@@ -1,7 +1,7 @@
 -- `listing::lines::start_line` meets its contract: its four pieces, one behind the other.
 use borrow.Author.Needs.{needs}
 use Rattle.theory.specs.Listing.{startLine}
-use Rattle.listing.proofs.TextLaws.{wrote-on}
+use Rattle.text.proofs.TextLaws.{wrote-on}
 use Rattle.listing.proofs.lines.start_line.Statement.{statement}
 use Rattle.listing.proofs.lines.start_line.Tie as tie
 

@@ -8,8 +8,9 @@ use lib.ListN.{length}
 use borrow.Author.Needs.{needs}
 use Rattle.theory.specs.Table.{producedIn}
 use Rattle.theory.specs.Listing.{startLine}
-use Rattle.listing.specs.Text.{longestStart, Wrote, lines}
-use Rattle.listing.proofs.TextLaws.{wrote-none, wrote-as, wrote-turn}
+use Rattle.text.specs.Text.{Wrote}
+use Rattle.text.proofs.TextLaws.{wrote-none, wrote-as, wrote-turn}
+use Rattle.listing.specs.Lines.{longestStart, lines}
 use Rattle.listing.proofs.LineLaws.{lines-more}
 use Rattle.listing.proofs.lines.start_lines.Statement.{statement}
 use Rattle.listing.proofs.lines.start_lines.Tie as tie

@@ -3,8 +3,9 @@ use native.Mathlib.Omega.{arith}
 use mathlib.Core.Path.{refl}
 use borrow.Author.Needs.{needs}
 use Rattle.theory.specs.Listing.{stateLine}
-use Rattle.listing.specs.Text.{longestRow, Wrote}
-use Rattle.listing.proofs.TextLaws.{wrote-as, wrote-on}
+use Rattle.text.specs.Text.{Wrote}
+use Rattle.text.proofs.TextLaws.{wrote-as, wrote-on}
+use Rattle.listing.specs.Lines.{longestRow}
 use Rattle.listing.proofs.lines.state_line.Statement.{statement}
 use Rattle.listing.proofs.lines.state_line.Tie as tie
 

@@ -8,8 +8,9 @@ use lib.ListN.{length}
 use borrow.Author.Needs.{needs}
 use Rattle.theory.specs.Table.{statesIn}
 use Rattle.theory.specs.Listing.{stateLine}
-use Rattle.listing.specs.Text.{longestState, Wrote, lines}
-use Rattle.listing.proofs.TextLaws.{wrote-none, wrote-as, wrote-turn}
+use Rattle.text.specs.Text.{Wrote}
+use Rattle.text.proofs.TextLaws.{wrote-none, wrote-as, wrote-turn}
+use Rattle.listing.specs.Lines.{longestState, lines}
 use Rattle.listing.proofs.LineLaws.{lines-more}
 use Rattle.listing.proofs.lines.state_lines.Statement.{statement}
 use Rattle.listing.proofs.lines.state_lines.Tie as tie

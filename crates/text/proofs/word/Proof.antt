@@ -1,10 +1,10 @@
--- `listing::text::word` meets its contract: what is copied is placed.
+-- `text::word` meets its contract: what is copied is placed.
 use mathlib.Core.Path.{_∙_}
 use denote.Ref.{now}
 use borrow.Author.Needs.{needs}
 use Rattle.byte_rows.proofs.PlacedLaws.{placed-row}
-use Rattle.listing.proofs.text.word.Statement.{statement}
-use Rattle.listing.proofs.text.word.Tie as tie
+use Rattle.text.proofs.word.Statement.{statement}
+use Rattle.text.proofs.word.Tie as tie
 
 copy-requires : tie.Need-copy-requires
 copy-requires c κs = search needs

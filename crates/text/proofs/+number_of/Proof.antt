@@ -5,14 +5,14 @@ use mathlib.Core.Path.{_≡_}
 use borrow.Author.Needs.{needs}
 use borrow.Fn.Kinds.{In}
 use borrow.Fn.PlainCycle.{Measures, is, falls, and}
-use Rattle.listing.proofs.TextLaws.{wrote-none, wrote-as, wrote-on}
-use Rattle.listing.proofs.LineLaws.{digits-one, digits-more}
-use Rattle.listing.proofs.text.+number_of.{statement}
-use Rattle.listing.proofs.text.+number_of.Tie.{close}
-use Rattle.listing.proofs.text.number_of.Reads as number-of
-use Rattle.listing.proofs.text.number_of.Kinds as number-of-kinds
-use Rattle.listing.proofs.text.+number_of.Lts-number_of as number-of-lts
-use Rattle.listing.proofs.text.digit.Reads as digit-reads
+use Rattle.text.proofs.TextLaws.{wrote-none, wrote-as, wrote-on}
+use Rattle.text.proofs.DigitLaws.{digits-one, digits-more}
+use Rattle.text.proofs.+number_of.{statement}
+use Rattle.text.proofs.+number_of.Tie.{close}
+use Rattle.text.proofs.number_of.Reads as number-of
+use Rattle.text.proofs.number_of.Kinds as number-of-kinds
+use Rattle.text.proofs.+number_of.Lts-number_of as number-of-lts
+use Rattle.text.proofs.digit.Reads as digit-reads
 
 abbrev μ-number-of : Measures 1 number-of-kinds.ps ℕ
 μ-number-of κs a = a .1 .1 .0

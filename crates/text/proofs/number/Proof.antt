@@ -1,10 +1,10 @@
--- `listing::text::number` meets its contract: three digits are enough below a thousand.
+-- `text::number` meets its contract: three digits are enough below a thousand.
 use native.Mathlib.Omega.{arith}
 use borrow.Author.Needs.{needs}
-use Rattle.listing.proofs.TextLaws.{wrote-as}
-use Rattle.listing.proofs.LineLaws.{three-digits}
-use Rattle.listing.proofs.text.number.Statement.{statement}
-use Rattle.listing.proofs.text.number.Tie as tie
+use Rattle.text.proofs.TextLaws.{wrote-as}
+use Rattle.text.proofs.DigitLaws.{three-digits}
+use Rattle.text.proofs.number.Statement.{statement}
+use Rattle.text.proofs.number.Tie as tie
 
 number-of-requires : tie.Need-number-of-requires
 number-of-requires c κs = search needs

@@ -1,8 +1,8 @@
--- `listing::text::spaced_number` meets its contract: its two pieces, one behind the other.
+-- `text::spaced_number` meets its contract: its two pieces, one behind the other.
 use borrow.Author.Needs.{needs}
-use Rattle.listing.proofs.TextLaws.{wrote-on}
-use Rattle.listing.proofs.text.spaced_number.Statement.{statement}
-use Rattle.listing.proofs.text.spaced_number.Tie as tie
+use Rattle.text.proofs.TextLaws.{wrote-on}
+use Rattle.text.proofs.spaced_number.Statement.{statement}
+use Rattle.text.proofs.spaced_number.Tie as tie
 
 slice-aggregate-word : tie.Need-slice-aggregate-word
 slice-aggregate-word c = search needs

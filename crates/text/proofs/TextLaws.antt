@@ -9,7 +9,7 @@ use lib.ListN.{length, take, length-append}
 use Rattle.theory.specs.Query.{Bytes}
 use Rattle.byte_rows.specs.Placed.{placed}
 use Rattle.byte_rows.proofs.PlacedLaws.{placed-none, placed-length, placed-more, placed-taken}
-use Rattle.listing.specs.Text.{Wrote, Printed}
+use Rattle.text.specs.Text.{Wrote, Printed}
 
 -- nothing written
 pub wrote-none : (d : Bytes) (at : ℕ) → at ≤ length d → Wrote d at [] 0 d at

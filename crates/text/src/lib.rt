@@ -1,9 +1,9 @@
-// Words and numbers, each written at a place of a text. Each hands back the place behind.
+// Words and numbers, each written at a place of a lent text. Each function hands back the place behind, and requires what its callers have shown: none is an entry point.
 ghost use mathlib.Core.List.{[], _∷_, map, flatten};
 ghost use Prim.Native.Nat.{_+_, _*_, _%_, _<_, _≤_};
 ghost use lib.ListN.{length};
 ghost use Rattle.theory.specs.Listing.{decimal, decimalWithin, spaced};
-ghost use Rattle.listing.specs.Text.{Wrote};
+ghost use Rattle.text.specs.Text.{Wrote};
 use byte_rows::copy;
 
 // A word, or any bytes.

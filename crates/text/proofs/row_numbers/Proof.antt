@@ -1,4 +1,4 @@
--- `listing::text::row_numbers` meets its contract. The loop's invariant: the first i numbers are written, each of at most 4 bytes.
+-- `text::row_numbers` meets its contract. The loop's invariant: the first i numbers are written, each of at most 4 bytes.
 use Prim.Native.Nat.{_*_, _-_, _≤_}
 use native.Mathlib.Omega.{arith}
 use mathlib.Core.Path.{_≡_, refl, ap}
@@ -8,11 +8,11 @@ use lib.Seq.{take-all}
 use lib.ListN.{length, take}
 use borrow.Author.Needs.{needs}
 use Rattle.theory.specs.Listing.{spaced}
-use Rattle.listing.specs.Text.{Wrote}
-use Rattle.listing.proofs.TextLaws.{wrote-none, wrote-as, wrote-turn}
-use Rattle.listing.proofs.LineLaws.{row-more}
-use Rattle.listing.proofs.text.row_numbers.Statement.{statement}
-use Rattle.listing.proofs.text.row_numbers.Tie as tie
+use Rattle.text.specs.Text.{Wrote}
+use Rattle.text.proofs.TextLaws.{wrote-none, wrote-as, wrote-turn}
+use Rattle.text.proofs.DigitLaws.{row-more}
+use Rattle.text.proofs.row_numbers.Statement.{statement}
+use Rattle.text.proofs.row_numbers.Tie as tie
 
 abbrev Inv-loop : tie.InvT-loop
 Inv-loop row text₀ at end₀ i₀ text end i = (i ≤ length row) × (length text ≡ length text₀) × Wrote text₀ at (flatten (map spaced (take i row))) (i * 4) text end
