@@ -55,9 +55,9 @@ fn construct_into(query: &[u8], work: &mut [u8], output: &mut [u8]) -> Built
     if refusal != PASSED {
         return refused(refusal);
     }
-    let p = query::produced(query);
-    let t = query::tested(query);
-    let s = query::sets(query);
+    let p = query_sizes::produced(query);
+    let t = query_sizes::tested(query);
+    let s = query_sizes::sets(query);
     deliver(work, made.rows, p, t, s, output)
 }
 

@@ -32,7 +32,7 @@ pub fn word(
 {
     let produced = query::order(query, OrderHandle(p));
     let mut word: u16 = 0;
-    let mut i = query::produced(query) + query::tested(query);
+    let mut i = query_sizes::produced(query) + query_sizes::tested(query);
     while 0 < i {
         i -= 1;
         let order = query::order(query, OrderHandle(i));

@@ -27,7 +27,7 @@ fn settle_pair(
     requires { ⌜ InForce (now query) (rulesAt (now query) x) (now left) (now right) n start (now classes) × WordsTo (now query) (now work) x p × (x < 2 ^ readQuery (now query) .sets) × (p < producedCount (now query)) × (workLength ≤ length (now work)) ⌝ }
     ensures { λ r. ⌜ WordsTo (now (query .entry)) (now (work .exit)) x (p + 1) × (length (now (work .exit)) ≡ length (now (work .entry))) ⌝ }
 {
-    let sets = query::sets(query) as usize;
+    let sets = query_sizes::sets(query) as usize;
     let word = held::word(query, left, right, n, start, classes, p);
     pair_words::write(work, sets, OrderHandle(p), SetChoice(x), word);
 }
@@ -46,7 +46,7 @@ fn settle_orders(
     requires { ⌜ InForce (now query) (rulesAt (now query) x) (now left) (now right) n start (now classes) × WordsBelow (now query) (now work) x × (x < 2 ^ readQuery (now query) .sets) × (workLength ≤ length (now work)) ⌝ }
     ensures { λ r. ⌜ WordsBelow (now (query .entry)) (now (work .exit)) (x + 1) × (length (now (work .exit)) ≡ length (now (work .entry))) ⌝ }
 {
-    let produced = query::produced(query);
+    let produced = query_sizes::produced(query);
     let mut p: u8 = 0;
     while p < produced {
         settle_pair(query, left, right, n, start, classes, work, x, p);
@@ -73,7 +73,7 @@ pub fn settle(query: &[u8], work: &mut [u8])
     requires { ⌜ (queryRefusal (now query) ≡ passed) × (workLength ≤ length (now work)) ⌝ }
     ensures { λ r. ⌜ WordsAre (now (query .entry)) (now (work .exit)) × (length (now (work .exit)) ≡ length (now (work .entry))) ⌝ }
 {
-    let choices = pair_words::choices(query::sets(query) as usize);
+    let choices = pair_words::choices(query_sizes::sets(query) as usize);
     let mut x = 0;
     while x < choices {
         settle_choice(query, work, x as u8);

@@ -39,8 +39,8 @@ pub fn construct(query: &[u8], work: &mut [u8]) -> Constructed
     ensures { λ r. ⌜ Leaves (construct (readQuery (now (query .entry)))) (now (work .exit)) r × (length (now (work .exit)) ≡ length (now (work .entry))) ⌝ }
 {
     choices::settle(query, work);
-    let produced = query::produced(query) as usize;
-    let tested = query::tested(query) as usize;
-    let sets = query::sets(query) as usize;
+    let produced = query_sizes::produced(query) as usize;
+    let tested = query_sizes::tested(query) as usize;
+    let sets = query_sizes::sets(query) as usize;
     answer(table_rows::number(work, produced, tested, sets))
 }

@@ -29,13 +29,13 @@ fn named(query: &[u8], produced: OrderHandle, sets: SetChoice, order: OrderHandl
     requires { ⌜ queryRefusal (now query) ≡ passed ⌝ }
     ensures { λ r. ⌜ Says (Named (readQuery (now (query .entry))) (produced .0) (sets .0) (order .0)) r ⌝ }
 {
-    if query::produced(query) <= produced.0 {
+    if query_sizes::produced(query) <= produced.0 {
         return false;
     }
     if query::bytes::order_count(query) <= order.0 as u16 {
         return false;
     }
-    sets.0 as u16 >> query::sets(query) == 0
+    sets.0 as u16 >> query_sizes::sets(query) == 0
 }
 
 // The closure test of two of the query's orders, under the choice.
@@ -65,7 +65,7 @@ fn show(
     requires { ⌜ Askable (now query) (produced .0) (sets .0) (order .0) (now rows) ⌝ }
     ensures { λ r. ⌜ Shows (now (query .entry)) (produced .0) (sets .0) (order .0) (now (rows .entry)) (foundAnswer r) (now (rows .exit)) × ListedFound r ⌝ }
 {
-    let n = query::columns(query) as usize;
+    let n = query_sizes::columns(query) as usize;
     match tested(query, produced, sets, order) {
         Tested::Held => Found::None,
         Tested::Stopped { settled, class } => {
@@ -93,7 +93,7 @@ pub fn find(
     if !named(query, produced, sets, order) {
         return Found::Refused(refusals::HANDLE);
     }
-    if 2 * query::columns(query) as usize <= rows.len() {
+    if 2 * query_sizes::columns(query) as usize <= rows.len() {
         return show(query, produced, sets, order, rows);
     }
     Found::Refused(refusals::SPACE)

@@ -98,7 +98,7 @@ fn evidence(query: &[u8], produced: u8, sets: u8, order: u8, text: &mut [u8]) ->
         OrderHandle(order),
         &mut rows,
     ) {
-        Found::TwoRows => two_rows(&rows, query::columns(query) as usize, text),
+        Found::TwoRows => two_rows(&rows, query_sizes::columns(query) as usize, text),
         Found::None => none(text),
         Found::Refused(n) => refused(n, text),
     }

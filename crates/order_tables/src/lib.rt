@@ -299,7 +299,7 @@ pub extern "C" fn order_query_dependency(query: &[u8], i: u8) -> u64
     if refusal != PASSED {
         return item_refused(refusal);
     }
-    if query::dependencies(query) <= i {
+    if query_sizes::dependencies(query) <= i {
         return item_refused(HANDLE);
     }
     dependency_value(query, i)

@@ -1,10 +1,10 @@
 // Reading a query's bytes: the counts, the heads and the four bytes of each item. Items are counted from 0, the orders first.
-use crate::dependencies;
-use crate::produced;
-use crate::tested;
 use byte_rows::byte;
 use numbers::limits;
 use orders::Order;
+use query_sizes::dependencies;
+use query_sizes::produced;
+use query_sizes::tested;
 ghost use mathlib.Core.Path.{_≡_};
 ghost use Prim.Native.Nat.{_-_, _≤_, min};
 ghost use Rattle.theory.specs.Query.{orderCount, itemCount, headAt, bodyAt, orderAt};

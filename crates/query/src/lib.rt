@@ -1,50 +1,14 @@
-// The query reader: what a query's bytes say. Every function takes any bytes, in any number.
+// The query reader: what a query's bytes say behind its sizes. Every function takes any bytes, in any number.
 pub mod bytes;
 
-use byte_rows::byte;
 use handles::OrderHandle;
 use numbers::limits;
 use orders::Order;
 use orders::Rule;
 ghost use mathlib.Core.Path.{_≡_};
 ghost use Prim.Native.Nat.{_+_};
-ghost use Rattle.theory.specs.Query.{columnCount, producedCount, testedCount, setCount, dependencyCount, orderCount, orderAt, ruleOf, dependencyAt};
+ghost use Rattle.theory.specs.Query.{orderCount, orderAt, ruleOf, dependencyAt};
 ghost use Rattle.orders.specs.Orders.{orderOf, OrderIs, ruleIs, dependencyIs};
-
-// The number of columns, N.
-pub fn columns(query: &[u8]) -> u8
-    ensures { λ r. ⌜ r ≡ columnCount (now (query .entry)) ⌝ }
-{
-    byte(query, 0)
-}
-
-// The number of produced orders, P.
-pub fn produced(query: &[u8]) -> u8
-    ensures { λ r. ⌜ r ≡ producedCount (now (query .entry)) ⌝ }
-{
-    byte(query, 1)
-}
-
-// The number of tested orders, T.
-pub fn tested(query: &[u8]) -> u8
-    ensures { λ r. ⌜ r ≡ testedCount (now (query .entry)) ⌝ }
-{
-    byte(query, 2)
-}
-
-// The number of sets, S.
-pub fn sets(query: &[u8]) -> u8
-    ensures { λ r. ⌜ r ≡ setCount (now (query .entry)) ⌝ }
-{
-    byte(query, 3)
-}
-
-// The number of dependencies, D.
-pub fn dependencies(query: &[u8]) -> u8
-    ensures { λ r. ⌜ r ≡ dependencyCount (now (query .entry)) ⌝ }
-{
-    byte(query, 4)
-}
 
 // Interesting order i: the produced ones come first, then the tested ones.
 pub fn order(query: &[u8], i: OrderHandle) -> Order

@@ -115,13 +115,13 @@ fn dependency_refusal(columns: u8, sets: u8, head: u8, body: Order) -> u8
 fn item_refusal(query: &[u8], i: u16) -> u8
     ensures { λ r. ⌜ r ≡ itemRefusal (now (query .entry)) i ⌝ }
 {
-    let columns = query::columns(query);
+    let columns = query_sizes::columns(query);
     let head = bytes::head(query, i);
     let body = bytes::body(query, i);
     if i < bytes::order_count(query) {
         return order_refusal(columns, head, body);
     }
-    dependency_refusal(columns, query::sets(query), head, body)
+    dependency_refusal(columns, query_sizes::sets(query), head, body)
 }
 
 // The first item that is refused, if one is.

@@ -54,10 +54,10 @@ fn sized(len: usize, n: u8, p: u8, t: u8, s: u8, d: u8) -> u8
 pub fn sizes_refusal(query: &[u8]) -> u8
     ensures { λ r. ⌜ r ≡ sizesRefusal (now (query .entry)) ⌝ }
 {
-    let n = query::columns(query);
-    let p = query::produced(query);
-    let t = query::tested(query);
-    let s = query::sets(query);
-    let d = query::dependencies(query);
+    let n = query_sizes::columns(query);
+    let p = query_sizes::produced(query);
+    let t = query_sizes::tested(query);
+    let s = query_sizes::sets(query);
+    let d = query_sizes::dependencies(query);
     sized(query.len(), n, p, t, s, d)
 }

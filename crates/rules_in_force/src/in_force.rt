@@ -60,7 +60,7 @@ fn list(query: &[u8], x: u8, left: &mut [u16], right: &mut [u16], only: bool) ->
     requires { ⌜ (queryRefusal (now query) ≡ passed) × (length (now left) ≡ 32) × (length (now right) ≡ 32) ⌝ }
     ensures { λ r. ⌜ ArrowsListed only (rulesAt (now (query .entry)) x) (now (left .exit)) (now (right .exit)) r ⌝ }
 {
-    let m = query::dependencies(query);
+    let m = query_sizes::dependencies(query);
     let mut n = 0;
     let mut i: u8 = 0;
     while i < m {

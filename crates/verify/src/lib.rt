@@ -14,13 +14,13 @@ ghost use Rattle.verify.specs.Own.{Own};
 fn mismatch(query: &[u8], table: &[u8]) -> u8
     ensures { λ r. ⌜ r ≡ mismatchRefusal (readQuery (now (query .entry))) (now (table .entry)) ⌝ }
 {
-    if table::produced(table) != query::produced(query) as usize {
+    if table::produced(table) != query_sizes::produced(query) as usize {
         return refusals::MISMATCH;
     }
-    if table::tested(table) != query::tested(query) as usize {
+    if table::tested(table) != query_sizes::tested(query) as usize {
         return refusals::MISMATCH;
     }
-    if table::sets(table) != query::sets(query) as usize {
+    if table::sets(table) != query_sizes::sets(query) as usize {
         return refusals::MISMATCH;
     }
     refusals::PASSED

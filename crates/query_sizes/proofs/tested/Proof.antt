@@ -1,7 +1,7 @@
--- `query::tested` meets its contract, by that of `byte`.
+-- `query_sizes::tested` meets its contract, by that of `byte`.
 use borrow.Author.Needs.{needs}
-use Rattle.query.proofs.tested.Statement.{statement}
-use Rattle.query.proofs.tested.Tie as tie
+use Rattle.query_sizes.proofs.tested.Statement.{statement}
+use Rattle.query_sizes.proofs.tested.Tie as tie
 
 byte-requires : tie.Need-byte-requires
 byte-requires c κs = search needs

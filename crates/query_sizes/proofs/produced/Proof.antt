@@ -1,7 +1,7 @@
--- `query::produced` meets its contract, by that of `byte`.
+-- `query_sizes::produced` meets its contract, by that of `byte`.
 use borrow.Author.Needs.{needs}
-use Rattle.query.proofs.produced.Statement.{statement}
-use Rattle.query.proofs.produced.Tie as tie
+use Rattle.query_sizes.proofs.produced.Statement.{statement}
+use Rattle.query_sizes.proofs.produced.Tie as tie
 
 byte-requires : tie.Need-byte-requires
 byte-requires c κs = search needs

@@ -1,7 +1,7 @@
--- `query::dependencies` meets its contract, by that of `byte`.
+-- `query_sizes::dependencies` meets its contract, by that of `byte`.
 use borrow.Author.Needs.{needs}
-use Rattle.query.proofs.dependencies.Statement.{statement}
-use Rattle.query.proofs.dependencies.Tie as tie
+use Rattle.query_sizes.proofs.dependencies.Statement.{statement}
+use Rattle.query_sizes.proofs.dependencies.Tie as tie
 
 byte-requires : tie.Need-byte-requires
 byte-requires c κs = search needs
