@@ -62,7 +62,7 @@ fn settle_choice(query: &[u8], work: &mut [u8], x: u8)
     let mut left = [0u16; 32];
     let mut right = [0u16; 32];
     let mut classes = [0u16; 16];
-    let ready = rules_in_force::prepare(query, SetChoice(x), &mut left, &mut right, &mut classes);
+    let ready = preparation::prepare(query, SetChoice(x), &mut left, &mut right, &mut classes);
     let n = ready.arrows;
     let start = ready.start;
     settle_orders(query, &left, &right, n, start, &classes, work, x);

@@ -46,7 +46,7 @@ fn tested(query: &[u8], produced: OrderHandle, sets: SetChoice, order: OrderHand
     let mut left = [0u16; 32];
     let mut right = [0u16; 32];
     let mut classes = [0u16; 16];
-    let ready = rules_in_force::prepare(query, sets, &mut left, &mut right, &mut classes);
+    let ready = preparation::prepare(query, sets, &mut left, &mut right, &mut classes);
     let n = ready.arrows;
     let start = ready.start;
     let p = query::order(query, produced);

@@ -1,4 +1,4 @@
--- `rules_in_force::in_force::list` meets its contract. The loop's invariant: the arrows of the first i dependencies are written.
+-- `rules_in_force::list` meets its contract. The loop's invariant: the arrows of the first i dependencies are written.
 use Prim.Native.Nat.{_*_, _-_, _≤_}
 use native.Mathlib.Nat.{zero-add}
 use native.Mathlib.Omega.{arith}
@@ -14,8 +14,8 @@ use Rattle.arrows.specs.Arrows.{Written}
 use Rattle.arrows.proofs.ArrowLaws.{written-none}
 use Rattle.rules_in_force.specs.Rules.{arrowsAt}
 use Rattle.rules_in_force.proofs.RuleLaws.{few-at, arrows-in-force}
-use Rattle.rules_in_force.proofs.in_force.list.Statement.{statement}
-use Rattle.rules_in_force.proofs.in_force.list.Tie as tie
+use Rattle.rules_in_force.proofs.list.Statement.{statement}
+use Rattle.rules_in_force.proofs.list.Tie as tie
 
 abbrev Inv-loop : tie.InvT-loop
 Inv-loop query x left₀ right₀ only m n₀ i₀ left right n i = (length left ≡ 32) × (length right ≡ 32) × (i ≤ m) × (n ≤ 2 * i) × Written (flatten (map (arrowsAt only query x) (upFrom 0 i))) left right n

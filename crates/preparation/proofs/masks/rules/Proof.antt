@@ -1,8 +1,8 @@
--- `rules_in_force::in_force::rules` meets its contract: the arrows of all rules in force stand for them.
+-- `preparation::masks::rules` meets its contract: the arrows of all rules in force stand for them.
 use borrow.Author.Needs.{needs}
-use Rattle.rules_in_force.proofs.RuleLaws.{written-stands}
-use Rattle.rules_in_force.proofs.in_force.rules.Statement.{statement}
-use Rattle.rules_in_force.proofs.in_force.rules.Tie as tie
+use Rattle.preparation.proofs.StandLaws.{written-stands}
+use Rattle.preparation.proofs.masks.rules.Statement.{statement}
+use Rattle.preparation.proofs.masks.rules.Tie as tie
 
 list-requires : tie.Need-list-requires
 list-requires c κs = search needs

@@ -1,15 +1,15 @@
--- `rules_in_force::in_force::classes` meets its contract. The loop's invariant: the masks below c have what their columns settle under the equals.
+-- `preparation::masks::classes` meets its contract. The loop's invariant: the masks below c have what their columns settle under the equals.
 use Prim.Native.Nat.{_-_, _≤_}
 use native.Mathlib.Omega.{arith}
 use mathlib.Core.Path.{_≡_, _∙_, subst}
 use lib.ListN.{length, length-set}
 use borrow.Author.Needs.{needs}
 use Rattle.closure.specs.Closing.{Closes}
 use Rattle.rules_in_force.specs.Rules.{rulesAt}
-use Rattle.rules_in_force.proofs.RuleLaws.{written-stands, only-equals}
-use Rattle.rules_in_force.proofs.ClassLaws.{Classed, classed-none, classed-more, classed-end}
-use Rattle.rules_in_force.proofs.in_force.classes.Statement.{statement}
-use Rattle.rules_in_force.proofs.in_force.classes.Tie as tie
+use Rattle.preparation.proofs.StandLaws.{written-stands, only-equals}
+use Rattle.preparation.proofs.ClassLaws.{Classed, classed-none, classed-more, classed-end}
+use Rattle.preparation.proofs.masks.classes.Statement.{statement}
+use Rattle.preparation.proofs.masks.classes.Tie as tie
 
 abbrev Inv-loop : tie.InvT-loop
 Inv-loop query x left right classes₀ n c₀ classes c = (length classes ≡ 16) × (c ≤ 16) × Classed left right n classes c

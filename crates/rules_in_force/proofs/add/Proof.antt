@@ -1,4 +1,4 @@
--- `rules_in_force::in_force::add` meets its contract: a dependency that is not listed adds nothing.
+-- `rules_in_force::add` meets its contract: a dependency that is not listed adds nothing.
 use Prim.Native.Nat.{_+_}
 use native.Mathlib.Omega.{arith}
 use mathlib.Core.Path.{_≡_, sym, _∙_, ap, subst}
@@ -16,8 +16,8 @@ use Rattle.arrows.specs.Arrows.{arrows}
 use Rattle.arrows.proofs.ArrowLaws.{adding-none}
 use Rattle.rules_in_force.specs.Rules.{arrowsAt, isListed}
 use Rattle.rules_in_force.proofs.RuleLaws.{listed-at, dependency-narrow}
-use Rattle.rules_in_force.proofs.in_force.add.Statement.{statement}
-use Rattle.rules_in_force.proofs.in_force.add.Tie as tie
+use Rattle.rules_in_force.proofs.add.Statement.{statement}
+use Rattle.rules_in_force.proofs.add.Tie as tie
 
 -- the arrows by whether the dependency is listed
 own-arrows : (c : tie.After-listed) → let a = c .before .before .before .before .before .before .args in

@@ -1,4 +1,4 @@
--- `rules_in_force::in_force::listed` meets its contract: by the kind of the dependency.
+-- `rules_in_force::listed` meets its contract: by the kind of the dependency.
 use mathlib.Core.Path.{refl}
 use borrow.Author.Needs.{needs}
 use borrow.Author.Tests.{eq-eqb, ne-eqb}
@@ -6,8 +6,8 @@ use Rattle.theory.specs.Limits.{equalKind}
 use Rattle.theory.specs.Query.{kindOf}
 use Rattle.theory.proofs.Picks.{pick-yes, pick-no}
 use Rattle.rules_in_force.specs.Rules.{isListed}
-use Rattle.rules_in_force.proofs.in_force.listed.Statement.{statement}
-use Rattle.rules_in_force.proofs.in_force.listed.Tie as tie
+use Rattle.rules_in_force.proofs.listed.Statement.{statement}
+use Rattle.rules_in_force.proofs.listed.Tie as tie
 
 in-force-requires : tie.Need-in-force-requires
 in-force-requires c κs = search needs

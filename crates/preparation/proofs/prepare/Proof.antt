@@ -1,8 +1,8 @@
--- `rules_in_force::prepare` meets its contract: the arrows stand for the rules, the classes are theirs, and what is closed from nothing is settled by nothing.
+-- `preparation::prepare` meets its contract: the arrows stand for the rules, the classes are theirs, and what is closed from nothing is settled by nothing.
 use borrow.Author.Needs.{needs}
-use Rattle.rules_in_force.proofs.ClassLaws.{closes-none}
-use Rattle.rules_in_force.proofs.prepare.Statement.{statement}
-use Rattle.rules_in_force.proofs.prepare.Tie as tie
+use Rattle.preparation.proofs.ClassLaws.{closes-none}
+use Rattle.preparation.proofs.prepare.Statement.{statement}
+use Rattle.preparation.proofs.prepare.Tie as tie
 
 -- places of the code, each reached from a later one: where the classes are written, and where the arrows are
 abbrev classed : tie.After-rules → tie.After-classes

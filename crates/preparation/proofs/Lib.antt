@@ -1,0 +1,3 @@
+-- What the proofs of this crate's functions share.
+pub mod StandLaws
+pub mod ClassLaws
