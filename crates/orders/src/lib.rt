@@ -1,10 +1,7 @@
 // Orders and dependencies by value. Every function takes any value: a `len` above 4 reads as 4.
 ghost use mathlib.Core.Path.{_≡_};
 ghost use Prim.Native.Nat.{_≤_, min};
-ghost use lib.Dec.{eqb};
 ghost use lib.ListN.{length, take, getD};
-ghost use Rattle.theory.specs.Tests.{member, position};
-ghost use Rattle.theory.specs.Orders.{sameOrder};
 ghost use Rattle.orders.specs.Orders.{orderOf, OrderIs};
 
 // An order, most significant column first: `len` columns, and entries that say nothing.
@@ -56,28 +53,6 @@ pub fn column(o: Order, i: usize) -> u8
     if i < length(o) { columns[i] } else { 0 }
 }
 
-// The place of a column; the length where it does not occur.
-pub fn position(o: Order, c: u8) -> usize
-    ensures { λ r. ⌜ r ≡ position eqb c (orderOf o) ⌝ }
-{
-    let n = length(o);
-    let mut i = 0;
-    while i < n {
-        if column(o, i) == c {
-            return i;
-        }
-        i += 1;
-    }
-    n
-}
-
-// Whether a column occurs.
-pub fn has(o: Order, c: u8) -> bool
-    ensures { λ r. ⌜ r ≡ member eqb c (orderOf o) ⌝ }
-{
-    position(o, c) < length(o)
-}
-
 // The first n columns.
 pub fn front(o: Order, n: usize) -> Order
     ensures { λ r. ⌜ OrderIs r (take n (orderOf o)) ⌝ }
@@ -85,22 +60,4 @@ pub fn front(o: Order, n: usize) -> Order
     let columns = o.columns;
     let len = least(n, length(o));
     Order { columns, len }
-}
-
-// Whether two orders are equal.
-pub fn same(a: Order, b: Order) -> bool
-    ensures { λ r. ⌜ r ≡ sameOrder (orderOf a) (orderOf b) ⌝ }
-{
-    let n = length(a);
-    if n != length(b) {
-        return false;
-    }
-    let mut i = 0;
-    while i < n {
-        if column(a, i) != column(b, i) {
-            return false;
-        }
-        i += 1;
-    }
-    true
 }

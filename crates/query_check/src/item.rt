@@ -49,7 +49,7 @@ fn repeated(o: Order) -> bool
     let n = orders::length(o);
     let mut i = 0;
     while i < n {
-        if orders::has(orders::front(o, i), orders::column(o, i)) {
+        if order_search::has(orders::front(o, i), orders::column(o, i)) {
             return true;
         }
         i += 1;

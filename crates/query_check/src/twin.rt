@@ -14,7 +14,7 @@ fn seen_before(query: &[u8], i: u16) -> bool
     let o = bytes::order_at(query, i);
     let mut j: u16 = 0;
     while j < i {
-        if orders::same(o, bytes::order_at(query, j)) {
+        if order_search::same(o, bytes::order_at(query, j)) {
             return true;
         }
         j += 1;

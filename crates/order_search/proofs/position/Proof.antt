@@ -1,13 +1,13 @@
--- `orders::position` meets its contract. The loop's invariant: c is not among the first i columns.
+-- `order_search::position` meets its contract. The loop's invariant: c is not among the first i columns.
 use Prim.Native.Nat.{_-_}
 use native.Mathlib.Omega.{arith}
 use mathlib.Core.Path.{_≡_, _∙_}
 use borrow.Author.Needs.{needs}
 use Rattle.orders.specs.Orders.{orderOf}
 use Rattle.theory.proofs.Reflect.{decides-number}
 use Rattle.theory.proofs.PositionLaws.{Unmet, unmet-none, unmet-more, unmet-end, unmet-found}
-use Rattle.orders.proofs.position.Statement.{statement}
-use Rattle.orders.proofs.position.Tie as tie
+use Rattle.order_search.proofs.position.Statement.{statement}
+use Rattle.order_search.proofs.position.Tie as tie
 
 abbrev Inv-loop : tie.InvT-loop
 Inv-loop o c n i₀ i = Unmet c (orderOf o) 0 i

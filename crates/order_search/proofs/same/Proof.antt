@@ -1,14 +1,14 @@
--- `orders::same` meets its contract. The loop's invariant: the first i columns are alike.
+-- `order_search::same` meets its contract. The loop's invariant: the first i columns are alike.
 use Prim.Native.Nat.{ℕ, _-_, _<_, _≤_}
 use native.Mathlib.Omega.{arith}
 use mathlib.Core.Path.{_≡_}
 use lib.ListN.{getD}
 use borrow.Author.Count.{below-none, below-more}
 use borrow.Author.Needs.{needs}
 use Rattle.orders.specs.Orders.{orderOf}
-use Rattle.orders.proofs.OrderLaws.{differ, differ-length, alike}
-use Rattle.orders.proofs.same.Statement.{statement}
-use Rattle.orders.proofs.same.Tie as tie
+use Rattle.order_search.proofs.SameLaws.{differ, differ-length, alike}
+use Rattle.order_search.proofs.same.Statement.{statement}
+use Rattle.order_search.proofs.same.Tie as tie
 
 abbrev Inv-loop : tie.InvT-loop
 Inv-loop a b n i₀ i = (i ≤ n) × ((k : ℕ) → k < i → getD (orderOf a) k 0 ≡ getD (orderOf b) k 0)

@@ -1,10 +1,10 @@
--- `orders::has` meets its contract: c occurs where its place is in the order.
+-- `order_search::has` meets its contract: c occurs where its place is in the order.
 use borrow.Author.Needs.{needs}
 use Rattle.orders.specs.Orders.{orderOf}
 use Rattle.theory.proofs.Reflect.{decides-number}
 use Rattle.theory.proofs.PositionLaws.{position-tells}
-use Rattle.orders.proofs.has.Statement.{statement}
-use Rattle.orders.proofs.has.Tie as tie
+use Rattle.order_search.proofs.has.Statement.{statement}
+use Rattle.order_search.proofs.has.Tie as tie
 
 position-requires : tie.Need-position-requires
 position-requires c κs = search needs
