@@ -1,4 +1,3 @@
 -- What the proofs of this crate's functions share.
 pub mod NamedLaws
 pub mod ShowLaws
-pub mod WriteLaws

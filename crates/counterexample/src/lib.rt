@@ -1,7 +1,5 @@
 // Two rows that show why a sort is needed: they stand in a produced order, obey the dependencies of a choice of sets in force and do not stand in an interesting order. Bit i of
 // a choice says whether set i is in force.
-mod rows;
-
 use handles::OrderHandle;
 use handles::SetChoice;
 use numbers::refusals;
@@ -69,7 +67,7 @@ fn show(
     match tested(query, produced, sets, order) {
         Tested::Held => Found::None,
         Tested::Stopped { settled, class } => {
-            rows::write(rows, n, settled, class);
+            two_rows::write(rows, n, settled, class);
             Found::TwoRows
         }
     }

@@ -1,4 +1,4 @@
--- `counterexample::rows::write` meets its contract: the second row is placed behind the first.
+-- `two_rows::write` meets its contract: the second row is placed behind the first.
 use borrow.Author.Needs.{needs}
 use native.Mathlib.Omega.{arith}
 use mathlib.Core.Path.{_∙_, ap}
@@ -8,9 +8,9 @@ use Rattle.theory.proofs.RangeLaws.{entry-count}
 use Rattle.byte_rows.specs.Placed.{placed}
 use Rattle.byte_rows.proofs.PlacedLaws.{placed-more}
 use Rattle.settled.specs.Ends.{rowBy}
-use Rattle.counterexample.proofs.WriteLaws.{writtenValue}
-use Rattle.counterexample.proofs.rows.write.Statement.{statement}
-use Rattle.counterexample.proofs.rows.write.Tie as tie
+use Rattle.two_rows.proofs.WriteLaws.{writtenValue}
+use Rattle.two_rows.proofs.write.Statement.{statement}
+use Rattle.two_rows.proofs.write.Tie as tie
 
 -- where the first row is written, reached from where both are
 abbrev first : tie.After-write-row2 → tie.After-write-row

@@ -1,11 +1,11 @@
--- `counterexample::rows::value` meets its contract: by whether the column is settled and whether it is in the class.
+-- `two_rows::value` meets its contract: by whether the column is settled and whether it is in the class.
 use borrow.Author.Needs.{needs}
 use mathlib.Core.Path.{sym, _∙_, ap}
 use mathlib.Core.Bool.{true, false, Bool·beq}
 use Rattle.theory.specs.Tests.{inMask}
-use Rattle.counterexample.proofs.WriteLaws.{settled-value, unsettled-value}
-use Rattle.counterexample.proofs.rows.value.Statement.{statement}
-use Rattle.counterexample.proofs.rows.value.Tie as tie
+use Rattle.two_rows.proofs.WriteLaws.{settled-value, unsettled-value}
+use Rattle.two_rows.proofs.value.Statement.{statement}
+use Rattle.two_rows.proofs.value.Tie as tie
 
 has-requires : tie.Need-has-requires
 has-requires c κs = search needs

@@ -1,4 +1,4 @@
-// The two rows by the masks where the test stops.
+// The two rows by the masks where the closure test stops, written into a buffer. Every function requires what its callers have shown: none is an entry point.
 use column_masks::has;
 ghost use mathlib.Core.Path.{_≡_};
 ghost use mathlib.Core.List.{_++_};

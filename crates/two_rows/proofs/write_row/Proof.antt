@@ -1,4 +1,4 @@
--- `counterexample::rows::write_row` meets its contract. The loop's invariant: the first c values are written.
+-- `two_rows::write_row` meets its contract. The loop's invariant: the first c values are written.
 use Prim.Native.Nat.{_+_, _-_, _≤_}
 use native.Mathlib.Omega.{arith}
 use mathlib.Core.Path.{_≡_, refl, _∙_, ap}
@@ -9,9 +9,9 @@ use Rattle.theory.proofs.RangeLaws.{entry-count}
 use Rattle.byte_rows.specs.Placed.{placed}
 use Rattle.byte_rows.proofs.PlacedLaws.{placed-none, placed-length}
 use Rattle.settled.specs.Ends.{rowBy}
-use Rattle.counterexample.proofs.WriteLaws.{writtenValue, wrote-more}
-use Rattle.counterexample.proofs.rows.write_row.Statement.{statement}
-use Rattle.counterexample.proofs.rows.write_row.Tie as tie
+use Rattle.two_rows.proofs.WriteLaws.{writtenValue, wrote-more}
+use Rattle.two_rows.proofs.write_row.Statement.{statement}
+use Rattle.two_rows.proofs.write_row.Tie as tie
 
 abbrev Inv-loop : tie.InvT-loop
 Inv-loop rows₀ at n first settled class c₀ rows c = (c ≤ n) × (length rows ≡ length rows₀) × (rows ≡ placed at (rowBy first settled class c) rows₀)
