@@ -6,8 +6,7 @@ use Rattle.theory.specs.Tests.{upFrom}
 use Rattle.theory.specs.Query.{Bytes}
 use Rattle.theory.specs.Listing.{decimal, heldLabel, lineEnd}
 
--- The longest lines, with three digits for each number and five for the held bits: the count; a start; a state, with its row of successors and its held bits;
--- a refusal.
+-- The longest lines, with three digits for each number and five for the held bits: the count; a start; a state, with its row of successors and its held bits.
 abbrev pub longestCount : ℕ
 longestCount = 11
 
@@ -22,9 +21,6 @@ longestHeld = 12
 
 abbrev pub longestState : ℕ
 longestState = 58
-
-abbrev pub longestRefusal : ℕ
-longestRefusal = 12
 
 -- All starts, and all states.
 abbrev pub longestStarts : ℕ

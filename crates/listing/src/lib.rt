@@ -1,15 +1,13 @@
-// The listing of a table, and the line of a refusal, written into a lent text.
+// The listing of a table, written into a lent text.
 ghost use Prim.Native.Nat.{_≤_};
 ghost use lib.ListN.{length};
-ghost use Rattle.theory.specs.Listing.{refusedLine, tableListing};
+ghost use Rattle.theory.specs.Listing.{tableListing};
 ghost use Rattle.table.specs.Form.{Formed};
 ghost use Rattle.text.specs.Text.{Printed};
-ghost use Rattle.listing.specs.Lines.{longestListing, longestRefusal};
+ghost use Rattle.listing.specs.Lines.{longestListing};
 use lines::count_line;
 use lines::start_lines;
 use lines::state_lines;
-use text::number;
-use text::word;
 
 mod lines;
 
@@ -21,14 +19,4 @@ pub fn list(table: &[u8], text: &mut [u8]) -> usize
     let starts = count_line(table, text, 0);
     let states = start_lines(table, text, starts);
     state_lines(table, text, states)
-}
-
-// The line of a refusal.
-pub fn refused(n: u8, text: &mut [u8]) -> usize
-    requires { ⌜ longestRefusal ≤ length (now text) ⌝ }
-    ensures { λ r. ⌜ Printed (now (text .entry)) (refusedLine n) (now (text .exit)) r ⌝ }
-{
-    let at = word(text, 0, b"refused ");
-    let end = number(text, at, n as usize);
-    word(text, end, b"\n")
 }

@@ -13,15 +13,15 @@ use handles::SetChoice;
 use input::Input;
 use libc::STDERR_FILENO;
 use libc::STDOUT_FILENO;
-use listing::refused;
 use numbers::limits::QUERY_FRONT;
 use numbers::refusals;
+use refusal_line::refused;
 ghost use Prim.Native.Nat.{_+_, _*_, _≤_};
 ghost use lib.ListN.{length};
 ghost use Rattle.theory.specs.Tests.{Says};
 ghost use Rattle.theory.specs.Limits.{maxColumns};
 ghost use Rattle.text.specs.Text.{Wrote, Printed};
-ghost use Rattle.listing.specs.Lines.{longestRefusal};
+ghost use Rattle.refusal_line.specs.Refusal.{longestRefusal};
 ghost use Rattle.order_counterexample.specs.Evidence.{longestRows, noneLine, rowLine, rowsText, largeLine, Small, Told, EvidencePrinted};
 
 // Two rows of 12 columns, and the longest text of two rows.

@@ -15,7 +15,7 @@ use numbers::refusals::PASSED;
 ghost use Prim.Native.Nat.{_≤_};
 ghost use lib.ListN.{length};
 ghost use Rattle.text.specs.Text.{Printed};
-ghost use Rattle.listing.specs.Lines.{longestRefusal};
+ghost use Rattle.refusal_line.specs.Refusal.{longestRefusal};
 ghost use Rattle.order_verify.specs.Verdict.{acceptedLine, verdictLine, VerdictPrinted};
 
 // The line of an accepted table; how many bytes of the text it takes.
@@ -36,7 +36,7 @@ fn verdict(refusal: u8, text: &mut [u8]) -> usize
     if refusal == PASSED {
         return accepted(text);
     }
-    listing::refused(refusal, text)
+    refusal_line::refused(refusal, text)
 }
 
 // The line of a trial's outcome, where the first 256 bytes of the query and the first 1,293 of the table are given.

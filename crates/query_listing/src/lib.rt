@@ -39,7 +39,7 @@ fn write_listing(query: &[u8], work: &mut [u8]) -> usize
     let built = builder::build(query, work, &mut table);
     let refusal = built.refusal;
     if refusal != PASSED {
-        return listing::refused(refusal, work);
+        return refusal_line::refused(refusal, work);
     }
     let length = built.length;
     listing::list(&table[..length], work)
@@ -65,7 +65,7 @@ fn list_refusal(refusal: u8, text: &mut [u8]) -> Listed
     ensures { λ r. ⌜ Handed (refusedLine refusal) (now (text .entry)) (now (text .exit)) r ⌝ }
 {
     let mut line = [0u8; LONGEST_REFUSAL];
-    let n = listing::refused(refusal, &mut line);
+    let n = refusal_line::refused(refusal, &mut line);
     hand_over(&line, n, text)
 }
 

@@ -1,8 +1,8 @@
--- `listing::refused` meets its contract: its three pieces, one behind the other.
+-- `refusal_line::refused` meets its contract: its three pieces, one behind the other.
 use borrow.Author.Needs.{needs}
 use Rattle.text.proofs.TextLaws.{wrote-on, wrote-first}
-use Rattle.listing.proofs.refused.Statement.{statement}
-use Rattle.listing.proofs.refused.Tie as tie
+use Rattle.refusal_line.proofs.refused.Statement.{statement}
+use Rattle.refusal_line.proofs.refused.Tie as tie
 
 slice-aggregate-word : tie.Need-slice-aggregate-word
 slice-aggregate-word c = search needs
