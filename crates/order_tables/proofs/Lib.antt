@@ -1,3 +1,2 @@
 pub mod CodeLaws
 pub mod AnswerCodes
-pub mod ItemLaws

@@ -8,30 +8,24 @@ use handles::StateNumber;
 use lookup::Asked;
 use lookup::Mark;
 use lookup::codes;
-use numbers::limits::BODY_WIDTH;
-use numbers::limits::EQUAL_KIND;
-use numbers::limits::ITEM_REFUSAL_UNIT;
 use numbers::limits::REFUSAL_UNIT;
 use numbers::limits::TABLE_SIZES;
-use numbers::refusals::HANDLE;
 use numbers::refusals::PASSED;
-use orders::Order;
-use orders::Rule;
 ghost use mathlib.Core.Path.{_≡_};
-ghost use Prim.Native.Nat.{_+_, _*_, _<_, _≤_, min};
-ghost use Rattle.theory.specs.Limits.{bodyWidth, equalKind, tableSizes};
-ghost use Rattle.theory.specs.Query.{queryRefusal, orderCount, orderAt, dependencyAt};
-ghost use Rattle.theory.specs.Table.{tableRefusal, refuse, enter, takeIn, ask, word};
+ghost use Prim.Native.Nat.{_+_, _*_, _<_};
+ghost use Rattle.theory.specs.Limits.{tableSizes};
+ghost use Rattle.theory.specs.Query.{queryRefusal};
+ghost use Rattle.theory.specs.Table.{tableRefusal, enter, takeIn, ask, word};
 ghost use Rattle.theory.specs.Build.{outcome, outputAfter, scratchAfter};
 ghost use Rattle.theory.specs.Verification.{verifyRefusal};
 ghost use lib.ListN.{length};
-ghost use Rattle.orders.specs.Orders.{orderOf, ruleIs};
 ghost use Rattle.lookup.specs.Answers.{askedAnswer, refusalUnit, answerCode};
 ghost use Rattle.counterexample.specs.Answers.{foundAnswer};
 ghost use Rattle.theory.specs.Listing.{listing};
+ghost use Rattle.query_items.specs.Items.{orderItemCode, dependencyItemCode};
 ghost use Rattle.replay.specs.Replay.{lookupsAfter, Modelled};
 ghost use Rattle.query_listing.specs.Listed.{listRefusal, textAfter};
-ghost use Rattle.order_tables.specs.Codes.{refusedCode, buildCode, listCode, rowCode, columnsCode, orderCode, kindCode, ruleColumns, dependencyCode, itemCode, orderItemCode, dependencyItemCode, ShownCode};
+ghost use Rattle.order_tables.specs.Codes.{refusedCode, buildCode, listCode, rowCode, ShownCode};
 
 // An ask: 1 held, 0 not held, or the refusal.
 fn asked(answer: Asked) -> u32
@@ -204,90 +198,12 @@ pub extern "C" fn order_query_check(query: &[u8]) -> u32
     codes::refused(query_check::check(query))
 }
 
-// The columns of an order, a byte each.
-fn columns(o: Order) -> u64
-    ensures { λ r. ⌜ (r ≡ columnsCode (orderOf o)) × (r < 4294967296) ⌝ }
-{
-    orders::column(o, 0) as u64
-        + 256 * (orders::column(o, 1) as u64)
-        + 65536 * (orders::column(o, 2) as u64)
-        + 16777216 * (orders::column(o, 3) as u64)
-}
-
-// A refused item, with the value 0.
-fn item_refused(refusal: u8) -> u64
-    ensures { λ r. ⌜ r ≡ itemCode (refuse refusal) ⌝ }
-{
-    refusal as u64 * ITEM_REFUSAL_UNIT
-}
-
-// What item i says as an order: its length, then its columns, a byte each.
-fn order_value(query: &[u8], i: u8) -> u64
-    ensures { λ r. ⌜ r ≡ orderCode (orderAt (now (query .entry)) i) ⌝ }
-{
-    let o = query::order(query, OrderHandle(i));
-    orders::length(o) as u64 + 256 * columns(o)
-}
-
 // Interesting order i of whatever bytes: the query's checks 1 to 6, then 10, then the order.
 #[no_mangle]
 pub extern "C" fn order_query_order(query: &[u8], i: u8) -> u64
     ensures { λ r. ⌜ r ≡ orderItemCode (now (query .entry)) i ⌝ }
 {
-    let refusal = query_check::check(query);
-    if refusal != PASSED {
-        return item_refused(refusal);
-    }
-    if query::bytes::order_count(query) <= i as u16 {
-        return item_refused(HANDLE);
-    }
-    order_value(query, i)
-}
-
-// How many left columns a fix has: its count, at most four.
-fn lefts(count: u8) -> u64
-    ensures { λ r. ⌜ r ≡ min count bodyWidth ⌝ }
-{
-    if (count as usize) < BODY_WIDTH {
-        count as u64
-    } else {
-        BODY_WIDTH as u64
-    }
-}
-
-// A rule's kind.
-fn kind(rule: Rule) -> u64
-    ensures { λ r. ⌜ (r ≡ kindCode (ruleIs rule)) × (r ≤ equalKind) ⌝ }
-{
-    match rule {
-        Rule::Fix { count, a, b, c, d } => lefts(count),
-        Rule::Equal { a, b } => EQUAL_KIND as u64,
-    }
-}
-
-// A rule's columns, as an order: of a fix the left ones, then the right one.
-fn named(rule: Rule) -> Order
-    ensures { λ r. ⌜ columnsCode (orderOf r) ≡ columnsCode (ruleColumns (ruleIs rule)) ⌝ }
-{
-    match rule {
-        Rule::Fix { count, a, b, c, d } => Order {
-            columns: [a, b, c, d],
-            len: count as usize + 1,
-        },
-        Rule::Equal { a, b } => Order {
-            columns: [a, b, 0, 0],
-            len: 2,
-        },
-    }
-}
-
-// What the item i behind the orders says as a dependency: its set, its kind, then its columns, a byte each.
-fn dependency_value(query: &[u8], i: u8) -> u64
-    ensures { λ r. ⌜ r ≡ dependencyCode (dependencyAt (now (query .entry)) (orderCount (now (query .entry)) + i)) ⌝ }
-{
-    let d = query::dependency(query, i);
-    let rule = d.rule;
-    d.set as u64 + 256 * kind(rule) + 65536 * columns(named(rule))
+    query_items::order(query, OrderHandle(i))
 }
 
 // Dependency i of whatever bytes: the query's checks 1 to 6, then 10, then the dependency.
@@ -295,12 +211,5 @@ fn dependency_value(query: &[u8], i: u8) -> u64
 pub extern "C" fn order_query_dependency(query: &[u8], i: u8) -> u64
     ensures { λ r. ⌜ r ≡ dependencyItemCode (now (query .entry)) i ⌝ }
 {
-    let refusal = query_check::check(query);
-    if refusal != PASSED {
-        return item_refused(refusal);
-    }
-    if query_sizes::dependencies(query) <= i {
-        return item_refused(HANDLE);
-    }
-    dependency_value(query, i)
+    query_items::dependency(query, i)
 }

@@ -1,8 +1,8 @@
--- `order_tables::named` meets its contract: a fix's columns by the law, an equal's as they stand.
-use Rattle.order_tables.proofs.CodeLaws.{fix-columns}
+-- `item_values::named` meets its contract: a fix's columns by the law, an equal's as they stand.
+use Rattle.item_values.proofs.ValueLaws.{fix-columns}
 use borrow.Author.Needs.{needs}
-use Rattle.order_tables.proofs.named.Statement.{statement}
-use Rattle.order_tables.proofs.named.Tie as tie
+use Rattle.item_values.proofs.named.Statement.{statement}
+use Rattle.item_values.proofs.named.Tie as tie
 
 enum-known-rule : tie.Need-enum-known-rule
 enum-known-rule c = search needs

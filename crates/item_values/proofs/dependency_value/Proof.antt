@@ -1,10 +1,10 @@
--- `order_tables::dependency_value` meets its contract: the parts of the dependency that was read, added up.
+-- `item_values::dependency_value` meets its contract: the parts of the dependency that was read, added up.
 use native.Mathlib.Omega.{arith}
 use mathlib.Core.Path.{ap}
-use Rattle.order_tables.specs.Codes.{dependencyCode}
+use Rattle.item_values.specs.Values.{dependencyCode}
 use borrow.Author.Needs.{needs}
-use Rattle.order_tables.proofs.dependency_value.Statement.{statement}
-use Rattle.order_tables.proofs.dependency_value.Tie as tie
+use Rattle.item_values.proofs.dependency_value.Statement.{statement}
+use Rattle.item_values.proofs.dependency_value.Tie as tie
 
 dependency-requires : tie.Need-dependency-requires
 dependency-requires c κs = search needs

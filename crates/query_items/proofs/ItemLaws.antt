@@ -15,7 +15,8 @@ use Rattle.theory.specs.Table.{grant, refuse}
 use Rattle.theory.proofs.Reflect.{says-eqb, says-ltb}
 use Rattle.theory.proofs.RowLaws.{all-cons, all-append}
 use Rattle.theory.proofs.PassedLaws.{query-passed}
-use Rattle.order_tables.specs.Codes.{columnsCode, orderCode, kindCode, ruleColumns, dependencyCode, itemUnit, itemCode, itemAnswer, orderItem, orderItemCode, dependencyItem, dependencyItemCode}
+use Rattle.item_values.specs.Values.{columnsCode, orderCode, kindCode, ruleColumns, dependencyCode}
+use Rattle.query_items.specs.Items.{itemUnit, itemCode, itemAnswer, orderItem, orderItemCode, dependencyItem, dependencyItemCode}
 
 module _ (query : Bytes) (count i value : ℕ) where
   -- the query is refused, the item is not there, or it is

@@ -1,8 +1,8 @@
--- `order_tables::kind` meets its contract: a fix's left columns are counted, an equal's kind is 4.
+-- `item_values::kind` meets its contract: a fix's left columns are counted, an equal's kind is 4.
 use lib.ListN.{length-take}
 use borrow.Author.Needs.{needs}
-use Rattle.order_tables.proofs.kind.Statement.{statement}
-use Rattle.order_tables.proofs.kind.Tie as tie
+use Rattle.item_values.proofs.kind.Statement.{statement}
+use Rattle.item_values.proofs.kind.Tie as tie
 
 enum-known-rule : tie.Need-enum-known-rule
 enum-known-rule c = search needs

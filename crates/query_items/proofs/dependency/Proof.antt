@@ -1,10 +1,10 @@
--- `order_tables::order_query_dependency` meets its contract: the query's refusal, 10, or the value.
+-- `query_items::dependency` meets its contract: the query's refusal, 10, or the value.
 use mathlib.Core.Path.{sym, _∙_}
-use Rattle.order_tables.proofs.ItemLaws.{query-refuses, item-missing, item-there}
+use Rattle.query_items.proofs.ItemLaws.{query-refuses, item-missing, item-there}
 use borrow.Author.Needs.{needs}
 use native.Mathlib.Omega.{arith}
-use Rattle.order_tables.proofs.order_query_dependency.Statement.{statement}
-use Rattle.order_tables.proofs.order_query_dependency.Tie as tie
+use Rattle.query_items.proofs.dependency.Statement.{statement}
+use Rattle.query_items.proofs.dependency.Tie as tie
 
 check-requires : tie.Need-check-requires
 check-requires c κs = search needs
@@ -34,8 +34,8 @@ returns-3 c =
     let unrefused = c .before .before .before in
     c .dependency-value .ensures ∙ item-there _ _ _ _ (sym (unrefused .if1 .left) ∙ unrefused .before .check .ensures) (omega arith)
 
-pub order-query-dependency-spec : {M : Type 1} → statement M
-order-query-dependency-spec =
+pub dependency-spec : {M : Type 1} → statement M
+dependency-spec =
     tie.close
     (tie.spec
     check-requires

@@ -1,10 +1,10 @@
--- `order_tables::order_value` meets its contract.
+-- `item_values::order_value` meets its contract.
 use native.Mathlib.Omega.{arith}
 use mathlib.Core.Path.{ap}
-use Rattle.order_tables.specs.Codes.{orderCode}
+use Rattle.item_values.specs.Values.{orderCode}
 use borrow.Author.Needs.{needs}
-use Rattle.order_tables.proofs.order_value.Statement.{statement}
-use Rattle.order_tables.proofs.order_value.Tie as tie
+use Rattle.item_values.proofs.order_value.Statement.{statement}
+use Rattle.item_values.proofs.order_value.Tie as tie
 
 order-requires : tie.Need-order-requires
 order-requires c κs = search needs

@@ -1,0 +1,2 @@
+-- What the proofs of this crate share, and that both numbers say their refusal and their value.
+pub mod ItemLaws
