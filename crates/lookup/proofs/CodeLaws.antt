@@ -14,7 +14,8 @@ use Rattle.theory.specs.Table.{Answer, grant, refuse, grantState, formRefusal, 
 use Rattle.theory.proofs.Reflect.{says-eqb, says-ltb}
 use Rattle.table.specs.Form.{Formed}
 use Rattle.table.proofs.FormLaws.{formed}
-use Rattle.lookup.specs.Answers.{refusalUnit, MoveRefusal, answerCode, decoded}
+use Rattle.answer_codes.specs.Codes.{refusalUnit, answerCode}
+use Rattle.lookup.specs.Answers.{MoveRefusal, decoded}
 use Rattle.theory.proofs.RefusalLaws.{pick-either}
 use Rattle.lookup.proofs.LookupLaws.{form-listed, refusal-some}
 

@@ -1,4 +1,3 @@
 -- What the proofs of this crate share.
 pub mod LookupLaws
-pub mod AskLaws
 pub mod CodeLaws

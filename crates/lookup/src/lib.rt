@@ -1,16 +1,17 @@
-// Lookups in a table's bytes, whatever they are: each answers in constant time or refuses, and knows nothing of the query. Those of `formed` alone require something of the bytes.
-pub mod codes;
-pub mod formed;
-
+// Lookups in a table's bytes, whatever they are: each answers in constant time or refuses, and knows nothing of the query.
 ghost use mathlib.Core.Path.{_≡_};
 ghost use Prim.Native.Nat.{_/_, _<_, _≤_};
 ghost use Rattle.theory.specs.Table.{enter, takeIn, ask, word, row, readRefusal};
-ghost use Rattle.lookup.specs.Answers.{refusalUnit, MoveRefusal, movedAnswer, askedAnswer, wordAnswer, ListedMove, ListedAsk, ListedWord, decoded};
+ghost use Rattle.answer_codes.specs.Codes.{refusalUnit};
+ghost use Rattle.formed_lookup.specs.Answers.{askedAnswer, ListedAsk};
+ghost use Rattle.lookup.specs.Answers.{MoveRefusal, movedAnswer, wordAnswer, ListedMove, ListedWord, decoded};
+use formed_lookup::Asked;
 use handles::OrderHandle;
 use handles::SetHandle;
 use handles::StateNumber;
 use numbers::limits;
 use numbers::refusals;
+use read_codes::read_refusal;
 
 // What a plan node carries: one state number.
 pub struct Mark {
@@ -23,20 +24,13 @@ pub enum Moved {
     Refused(u8),
 }
 
-// Whether an interesting order is held.
-pub enum Asked {
-    Held,
-    NotHeld,
-    Refused(u8),
-}
-
 // A state's held word.
 pub enum HeldWord {
     Word(u16),
     Refused(u8),
 }
 
-// The answer that a number of `codes` stands for: a state where it is below 65,536, else a refusal.
+// The answer that a number of `lookup_codes` stands for: a state where it is below 65,536, else a refusal.
 fn decoded(code: u32) -> Moved
     requires { ⌜ (code < refusalUnit → code < 256) × (refusalUnit ≤ code → MoveRefusal (code / refusalUnit)) ⌝ }
     ensures { λ r. ⌜ movedAnswer r ≡ decoded code ⌝ }
@@ -56,22 +50,7 @@ pub fn enter(table: &[u8], order: OrderHandle) -> Moved
     ensures { λ r. ⌜ movedAnswer r ≡ enter (now (table .entry)) (order .0) ⌝ }
     ensures { λ r. ⌜ ListedMove r ⌝ }
 {
-    decoded(codes::enter(table, order))
-}
-
-// The refusal where something of a state is read as it is in the table: 1, 2, 1, then 10.
-fn read_refusal(table: &[u8], state: StateNumber) -> u8
-    ensures { λ r. ⌜ r ≡ readRefusal (now (table .entry)) (state .0) ⌝ }
-{
-    let refusal = table::form(table);
-    if refusal != refusals::PASSED {
-        return refusal;
-    }
-    if (state.0 as usize) < table::states(table) {
-        refusals::PASSED
-    } else {
-        refusals::HANDLE
-    }
+    decoded(lookup_codes::enter(table, order))
 }
 
 // The lookups of a plan node are methods of its mark, by value.
@@ -81,7 +60,7 @@ impl Mark {
         ensures { λ r. ⌜ movedAnswer r ≡ takeIn (now (table .entry)) (self .state .0) (set .0) ⌝ }
         ensures { λ r. ⌜ ListedMove r ⌝ }
     {
-        decoded(codes::take(table, self.state, set))
+        decoded(lookup_codes::take(table, self.state, set))
     }
 
     // Ask whether an interesting order is held: 1, 2, 1, then 10.
@@ -93,7 +72,7 @@ impl Mark {
         if refusal != refusals::PASSED {
             return Asked::Refused(refusal);
         }
-        formed::ask(table, self.state, order)
+        formed_lookup::ask(table, self.state, order)
     }
 
     // Hand back the word, as it is in the table: 1, 2, 1, then 10.

@@ -1,50 +1,26 @@
 // The functions for C and Rust. Each returns the refusal's number times a unit plus a value, which is 0 on refusal. The unit is 65,536, and 2 to the 48 where an item of a query
 // is read.
+use answer_codes::coded;
+use answer_codes::refused;
 use counterexample::Found;
 use handles::OrderHandle;
 use handles::SetChoice;
 use handles::SetHandle;
 use handles::StateNumber;
-use lookup::Asked;
-use lookup::Mark;
-use lookup::codes;
-use numbers::limits::REFUSAL_UNIT;
-use numbers::limits::TABLE_SIZES;
-use numbers::refusals::PASSED;
 ghost use mathlib.Core.Path.{_≡_};
-ghost use Prim.Native.Nat.{_+_, _*_, _<_};
-ghost use Rattle.theory.specs.Limits.{tableSizes};
 ghost use Rattle.theory.specs.Query.{queryRefusal};
 ghost use Rattle.theory.specs.Table.{tableRefusal, enter, takeIn, ask, word};
 ghost use Rattle.theory.specs.Build.{outcome, outputAfter, scratchAfter};
 ghost use Rattle.theory.specs.Verification.{verifyRefusal};
 ghost use lib.ListN.{length};
-ghost use Rattle.lookup.specs.Answers.{askedAnswer, refusalUnit, answerCode};
+ghost use Rattle.answer_codes.specs.Codes.{answerCode, refusedCode};
 ghost use Rattle.counterexample.specs.Answers.{foundAnswer};
 ghost use Rattle.theory.specs.Listing.{listing};
 ghost use Rattle.query_items.specs.Items.{orderItemCode, dependencyItemCode};
+ghost use Rattle.read_codes.specs.Codes.{rowCode};
 ghost use Rattle.replay.specs.Replay.{lookupsAfter, Modelled};
 ghost use Rattle.query_listing.specs.Listed.{listRefusal, textAfter};
-ghost use Rattle.order_tables.specs.Codes.{refusedCode, buildCode, listCode, rowCode, ShownCode};
-
-// An ask: 1 held, 0 not held, or the refusal.
-fn asked(answer: Asked) -> u32
-    ensures { λ r. ⌜ r ≡ answerCode (askedAnswer answer) ⌝ }
-{
-    match answer {
-        Asked::Held => 1,
-        Asked::NotHeld => 0,
-        Asked::Refused(n) => codes::refused(n),
-    }
-}
-
-// A refusal and a value as one number.
-fn coded(refusal: u8, value: usize) -> u32
-    requires { ⌜ value < refusalUnit ⌝ }
-    ensures { λ r. ⌜ r ≡ refusal * refusalUnit + value ⌝ }
-{
-    refusal as u32 * REFUSAL_UNIT + value as u32
-}
+ghost use Rattle.order_tables.specs.Codes.{buildCode, listCode, ShownCode};
 
 // Build a query's table: its length.
 #[no_mangle]
@@ -91,7 +67,7 @@ pub extern "C" fn order_table_list(query: &[u8], scratch: &mut [u8], text: &mut 
 pub extern "C" fn order_table_check(table: &[u8]) -> u32
     ensures { λ r. ⌜ r ≡ refusedCode (tableRefusal (now (table .entry))) ⌝ }
 {
-    codes::refused(table::check(table))
+    refused(table::check(table))
 }
 
 // Verify a supplier's table against a query.
@@ -100,7 +76,7 @@ pub extern "C" fn order_table_verify(query: &[u8], table: &[u8], scratch: &mut [
     ensures { λ r. ⌜ r ≡ refusedCode (verifyRefusal (now (query .entry)) (now (table .entry)) (length (now (scratch .entry)))) ⌝ }
     ensures { λ r. ⌜ now (scratch .exit) ≡ scratchAfter (now (query .entry)) (now (scratch .entry)) ⌝ }
 {
-    codes::refused(verify::verify(query, table, scratch))
+    refused(verify::verify(query, table, scratch))
 }
 
 // Enter by a produced order: the state.
@@ -108,7 +84,7 @@ pub extern "C" fn order_table_verify(query: &[u8], table: &[u8], scratch: &mut [
 pub extern "C" fn order_table_enter(table: &[u8], produced: u8) -> u32
     ensures { λ r. ⌜ r ≡ answerCode (enter (now (table .entry)) produced) ⌝ }
 {
-    codes::enter(table, OrderHandle(produced))
+    lookup_codes::enter(table, OrderHandle(produced))
 }
 
 // Take a set in a state: the next state.
@@ -116,7 +92,7 @@ pub extern "C" fn order_table_enter(table: &[u8], produced: u8) -> u32
 pub extern "C" fn order_table_take(table: &[u8], state: u8, set: u8) -> u32
     ensures { λ r. ⌜ r ≡ answerCode (takeIn (now (table .entry)) state set) ⌝ }
 {
-    codes::take(table, StateNumber(state), SetHandle(set))
+    lookup_codes::take(table, StateNumber(state), SetHandle(set))
 }
 
 // Ask whether an interesting order is held in a state: 1 held, 0 not held.
@@ -124,10 +100,7 @@ pub extern "C" fn order_table_take(table: &[u8], state: u8, set: u8) -> u32
 pub extern "C" fn order_table_ask(table: &[u8], state: u8, order: u8) -> u32
     ensures { λ r. ⌜ r ≡ answerCode (ask (now (table .entry)) state order) ⌝ }
 {
-    let mark = Mark {
-        state: StateNumber(state),
-    };
-    asked(mark.ask(table, OrderHandle(order)))
+    lookup_codes::ask(table, StateNumber(state), OrderHandle(order))
 }
 
 // Hand back a state's held word: bit i for interesting order i.
@@ -135,15 +108,7 @@ pub extern "C" fn order_table_ask(table: &[u8], state: u8, order: u8) -> u32
 pub extern "C" fn order_table_word(table: &[u8], state: u8) -> u32
     ensures { λ r. ⌜ r ≡ answerCode (word (now (table .entry)) state) ⌝ }
 {
-    codes::word(table, StateNumber(state))
-}
-
-// Where a state's row begins, from sizes that are bytes.
-fn offset(produced: usize, state: usize, sets: usize) -> u32
-    requires { ⌜ (produced < 256) × (state < 256) × (sets < 256) ⌝ }
-    ensures { λ r. ⌜ r ≡ tableSizes + produced + state * sets ⌝ }
-{
-    (TABLE_SIZES + produced + state * sets) as u32
+    read_codes::word(table, StateNumber(state))
 }
 
 // A state's successor row: its offset in the table.
@@ -151,12 +116,7 @@ fn offset(produced: usize, state: usize, sets: usize) -> u32
 pub extern "C" fn order_table_row(table: &[u8], state: u8) -> u32
     ensures { λ r. ⌜ r ≡ rowCode (now (table .entry)) state ⌝ }
 {
-    let mut refusal = PASSED;
-    lookup::row_of(table, StateNumber(state), &mut refusal);
-    if refusal != PASSED {
-        return codes::refused(refusal);
-    }
-    offset(table::produced(table), state as usize, table::sets(table))
+    read_codes::row(table, StateNumber(state))
 }
 
 // A search for two rows: 1 where they were written, 0 where there are none, or the refusal.
@@ -166,7 +126,7 @@ fn found(answer: Found) -> u32
     match answer {
         Found::TwoRows => 1,
         Found::None => 0,
-        Found::Refused(n) => codes::refused(n),
+        Found::Refused(n) => refused(n),
     }
 }
 
@@ -195,7 +155,7 @@ pub extern "C" fn order_query_counterexample(
 pub extern "C" fn order_query_check(query: &[u8]) -> u32
     ensures { λ r. ⌜ r ≡ refusedCode (queryRefusal (now (query .entry))) ⌝ }
 {
-    codes::refused(query_check::check(query))
+    refused(query_check::check(query))
 }
 
 // Interesting order i of whatever bytes: the query's checks 1 to 6, then 10, then the order.

@@ -3,7 +3,7 @@ use mathlib.Core.Path.{sym, _∙_}
 use borrow.Author.Needs.{needs}
 use Rattle.theory.specs.Table.{row}
 use Rattle.theory.proofs.Picks.{picks}
-use Rattle.lookup.proofs.LookupLaws.{read-granted}
+use Rattle.read_codes.proofs.ReadLaws.{read-granted}
 use Rattle.lookup.proofs.row_of.Statement.{statement}
 use Rattle.lookup.proofs.row_of.Tie as tie
 

@@ -3,7 +3,8 @@ use mathlib.Core.Path.{sym, _∙_}
 use borrow.Author.Needs.{needs}
 use Rattle.theory.specs.Table.{ask}
 use Rattle.table.proofs.FormLaws.{formed}
-use Rattle.lookup.proofs.LookupLaws.{form-refuses, form-read}
+use Rattle.lookup_codes.proofs.RefusedForms.{form-refuses}
+use Rattle.lookup.proofs.LookupLaws.{form-read}
 use Rattle.lookup.proofs.Mark.ask.Statement.{statement}
 use Rattle.lookup.proofs.Mark.ask.Tie as tie
 

@@ -1,4 +1,4 @@
--- `lookup::Mark::take` meets its contract: the number that `codes` gives is read back.
+-- `lookup::Mark::take` meets its contract: the number that `lookup_codes` gives is read back.
 use mathlib.Core.Path.{_∙_}
 use borrow.Author.Needs.{needs}
 use Rattle.lookup.proofs.CodeLaws.{code-fits, code-read, plain-take}

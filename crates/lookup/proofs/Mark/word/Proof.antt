@@ -3,7 +3,8 @@ use mathlib.Core.Path.{sym, _∙_, ap}
 use borrow.Author.Needs.{needs}
 use Rattle.theory.specs.Table.{grant, word}
 use Rattle.theory.proofs.Picks.{picks}
-use Rattle.lookup.proofs.LookupLaws.{read-granted, read-listed}
+use Rattle.read_codes.proofs.ReadLaws.{read-granted}
+use Rattle.lookup.proofs.LookupLaws.{read-listed}
 use Rattle.lookup.proofs.Mark.word.Statement.{statement}
 use Rattle.lookup.proofs.Mark.word.Tie as tie
 
