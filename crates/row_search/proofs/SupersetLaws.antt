@@ -6,7 +6,6 @@ use mathlib.Core.Bool.{Bool}
 use lib.Arith.{bin-ind}
 use lib.Bits.{bitOr, or-comm, or-zero-r, or-self, or-step, or-lt}
 use Rattle.theory.specs.Tests.{Says, holds, fails}
-use Rattle.theory.specs.AnswerTree.{AnswerTree}
 use Rattle.theory.specs.Query.{Bytes}
 use Rattle.theory.proofs.Reflect.{says-eqb, says-ltb}
 use Rattle.theory.proofs.BitLaws.{or-more}
@@ -52,19 +51,13 @@ superset-step P m x e own before y h f = go (says-ltb y x) (says-eqb x y)
     go (fails l) (fails d) = absurd (omega (arith, next-superset m x y e f (omega arith)))
 
 module _ (bits sets : ℕ) (words : Bytes) where
-  abbrev W : ℕ → ℕ → ℕ
-  W p x = cutWord bits sets words p x
-
-  abbrev T : ℕ → ℕ → AnswerTree
-  T p m = stateOf bits sets words p m
-
   -- what is held with each choice that has all sets of m gives the state, ..
-  pub supersets-same : (p q m : ℕ) → ((y : ℕ) → y < 2 ^ sets → bitOr y m ≡ y → W p y ≡ W q y) → m < 2 ^ sets → T p m ≡ T q m
+  pub supersets-same : (p q m : ℕ) → ((y : ℕ) → y < 2 ^ sets → bitOr y m ≡ y → cutWord bits sets words p y ≡ cutWord bits sets words q y) → m < 2 ^ sets → stateOf bits sets words p m ≡ stateOf bits sets words q m
   supersets-same p q m h l =
       state-same bits sets words p m q m (λ x k. h (bitOr m x) (or-lt sets m x l k) (or-comm (bitOr m x) m ∙ sym (or-assoc m m x) ∙ ap (λ n. bitOr n x) (or-self m)))
 
   -- .. and the state tells it
-  pub superset-tells : (p q m : ℕ) → T p m ≡ T q m → (y : ℕ) → y < 2 ^ sets → bitOr y m ≡ y → W p y ≡ W q y
+  pub superset-tells : (p q m : ℕ) → stateOf bits sets words p m ≡ stateOf bits sets words q m → (y : ℕ) → y < 2 ^ sets → bitOr y m ≡ y → cutWord bits sets words p y ≡ cutWord bits sets words q y
   superset-tells p q m e y h k =
       let same : bitOr m y ≡ y = or-comm m y ∙ k in
-      subst (λ n. W p n ≡ W q n) same (state-tells bits sets words p m q m e y h)
+      subst (λ n. cutWord bits sets words p n ≡ cutWord bits sets words q n) same (state-tells bits sets words p m q m e y h)
