@@ -354,3 +354,42 @@ fn each_landing_has_a_short_note() {
         }
     }
 }
+
+/// The crate and the name of every must-fail edit.
+fn must_fail_edits() -> BTreeSet<(String, String)> {
+    let mut edits = BTreeSet::new();
+    let crates = fs::read_dir(repository().join("crates")).expect("the crates are there");
+    for folder in crates.map(|entry| entry.expect("a crate").path()) {
+        let Ok(files) = fs::read_dir(folder.join("must-fail")) else {
+            continue;
+        };
+        for file in files.map(|entry| entry.expect("an edit").path()) {
+            let names = [folder.file_name(), file.file_stem()];
+            let [folder, edit] = names.map(|name| name.expect("a name").to_string_lossy());
+            edits.insert((folder.into_owned(), edit.into_owned()));
+        }
+    }
+    edits
+}
+
+#[test]
+fn the_claims_name_each_wrong_program_that_is_kept() {
+    let edits = must_fail_edits();
+    assert!(edits.len() > 130, "only {} edits", edits.len());
+    let claims = document("docs/CLAIMS.md");
+    let named = quoted(&claims);
+    for (folder, edit) in &edits {
+        let whole = format!("{folder}/{edit}");
+        assert!(
+            named.contains(&whole[..]) || named.contains(&edit[..]),
+            "{whole} is not named"
+        );
+    }
+    let folders: BTreeSet<&str> = edits.iter().map(|(folder, _)| &folder[..]).collect();
+    for name in named {
+        if let Some((folder, edit)) = name.split_once('/') {
+            let edit = (folder.to_owned(), edit.to_owned());
+            assert!(!folders.contains(folder) || edits.contains(&edit), "{name}");
+        }
+    }
+}
