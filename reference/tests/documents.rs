@@ -385,11 +385,12 @@ fn the_claims_name_each_wrong_program_that_is_kept() {
             "{whole} is not named"
         );
     }
+    // A name with a full stop or a slash at its end is of a file or a folder.
     let folders: BTreeSet<&str> = edits.iter().map(|(folder, _)| &folder[..]).collect();
-    for name in named {
-        if let Some((folder, edit)) = name.split_once('/') {
-            let edit = (folder.to_owned(), edit.to_owned());
-            assert!(!folders.contains(folder) || edits.contains(&edit), "{name}");
-        }
+    let of_edits = named.iter().filter_map(|name| name.split_once('/'));
+    for (folder, edit) in of_edits.filter(|(folder, _)| folders.contains(folder)) {
+        let kept = edits.contains(&(folder.to_owned(), edit.to_owned()));
+        let elsewhere = edit.is_empty() || edit.contains('.');
+        assert!(kept || elsewhere, "{folder}/{edit} is not kept");
     }
 }
