@@ -287,15 +287,14 @@ fn quoted(cell: &str) -> BTreeSet<&str> {
 fn the_architecture_lists_the_crates() {
     let listed = document("crates.txt");
     let listed = listed.lines().filter(|line| !line.starts_with('#'));
-    let listed: Vec<(&str, BTreeSet<&str>)> = listed
+    let listed: BTreeMap<&str, BTreeSet<&str>> = listed
         .filter_map(|line| line.split_once(':'))
         .map(|(name, others)| (name, others.split_whitespace().collect()))
         .collect();
 
     // What the crates of a line depend on counts too, and these stand above it.
     let architecture = document("docs/ARCHITECTURE.md");
-    let mut all: BTreeMap<&str, BTreeSet<&str>> = BTreeMap::new();
-    let mut described = Vec::new();
+    let mut described: BTreeMap<&str, BTreeSet<&str>> = BTreeMap::new();
     for row in rows(section(&architecture, "The crates")) {
         let [name, about, named] = row[..] else {
             panic!("{row:?}")
@@ -303,10 +302,9 @@ fn the_architecture_lists_the_crates() {
         assert!(!about.is_empty(), "{name}");
         let name = quoted(name).pop_first().expect("the row names a crate");
         let named = quoted(named);
-        let below = named.iter().filter_map(|other| all.get(other)).flatten();
-        let below: BTreeSet<&str> = below.chain(&named).copied().collect();
-        all.insert(name, below.clone());
-        described.push((name, below));
+        let below = named.iter().filter_map(|other| described.get(other));
+        let below = below.flatten().chain(&named).copied().collect();
+        assert!(described.insert(name, below).is_none(), "{name} twice");
     }
     assert_eq!(described, listed);
 }
