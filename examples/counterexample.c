@@ -1,6 +1,6 @@
 /* A planner author's question: why is a sort needed? Two rows show it: they are in the order that the scan delivers, and not in the one looked for.
  * The query is a file of examples/: columns a, b, c; orders (a) and (b,a) can be produced, (a,b) and (c) are only looked for; set 0 brings a -> b and
- * set 1 brings b = c. It runs in the folder above. */
+ * set 1 brings b = c. Run it from the repository's root. */
 #include <stdio.h>
 
 #include "order_tables.h"

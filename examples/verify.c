@@ -1,6 +1,6 @@
 /* A planner that gets its tables from a supplier: it uses one only when its trial for the query accepts it.
  * The query and the tables are files of examples/: columns a, b, c; orders (a) and (b,a) can be produced, (a,b) and (c) are only looked for;
- * set 0 brings a -> b and set 1 brings b = c. It runs in the folder above. */
+ * set 0 brings a -> b and set 1 brings b = c. Run it from the repository's root. */
 #include <stdio.h>
 
 #include "order_tables.h"
@@ -12,7 +12,7 @@ static uint8_t query[ORDER_TABLE_LONGEST_QUERY + 1];
 static uint8_t table[ORDER_TABLE_LONGEST_TABLE + 1];
 static uint8_t scratch[ORDER_TABLE_SCRATCH];
 
-/* Reads a file's bytes, as far as there is room. Gives how many they are; none when the file cannot be read, which every check refuses. */
+/* Reads a file's bytes, as far as there is room. Returns their count, or 0 if the file cannot be opened; every check refuses 0 bytes. */
 static size_t read_file(const char *path, uint8_t *bytes, size_t room) {
     FILE *file = fopen(path, "rb");
     if (file == NULL) {

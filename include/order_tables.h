@@ -1,5 +1,5 @@
 /* Order tables for a query planner: check and read a query, build its table, check a table, put a supplier's table on trial, look it up, list it, and
- * show two rows where an order is not held. For callers in C this page is the authority: what a function promises is said here and nowhere else.
+ * show two rows where an order is not held. For callers in C this page is the authority: what a function promises is said here, and other pages point here.
  *
  * Words and letters
  *
@@ -27,14 +27,14 @@
  *
  * Results
  *
- * Every function returns a refusal's number and a value in one number. A refusal of 0 is none; on refusal the value is 0, which is no state and no "not
- * held": look at the refusal first. order_query_order and order_query_dependency return 64 bits, the refusal in the highest 16: split these with
+ * Every function returns a refusal's number and a value in one number. A refusal of 0 is none. On refusal the value is 0, which then means neither state 0
+ * nor "not held": check the refusal first. order_query_order and order_query_dependency return 64 bits, the refusal in the highest 16: split these with
  * order_query_item_refusal and order_query_item_value. All others return 32 bits, the refusal in the highest 16: split those with order_table_refusal
  * and order_table_value.
  *
  * Buffers and threads
  *
- * Buffers are lent for the call: a pointer to so many bytes. Buffers of one call must not overlap. A buffer of length 0 may be any pointer but a null
+ * Buffers are lent for the call, each as a pointer and a length in bytes. Buffers of one call must not overlap. A buffer of length 0 may be any pointer but a null
  * one. Nothing is allocated, and nothing is kept between calls. So all calls may run at once, in any threads, each with its own buffers; bytes that
  * calls only read may be lent to several at once while nobody writes to them.
  */
@@ -81,7 +81,7 @@ enum order_table_refusals {
 
 /* Sizes in bytes. */
 enum order_table_sizes {
-    ORDER_TABLE_SCRATCH = 16384,      /* what a build, a listing or a trial of a supplier's table takes as scratch */
+    ORDER_TABLE_SCRATCH = 16384,      /* what a build, a replay, a listing or a trial of a supplier's table takes as scratch */
     ORDER_TABLE_LONGEST_QUERY = 165,  /* five sizes, and 32 items of one head and four bytes */
     ORDER_TABLE_LONGEST_TABLE = 1292, /* four sizes, 8 starts, 128 rows of 8 successors, 128 times two bytes of held bits */
     ORDER_TABLE_LISTING = 7547,       /* room for every listing */
@@ -121,7 +121,7 @@ static inline const char *order_table_refusal_word(uint32_t number) {
     }
 }
 
-/* The checks 1 to 6 of a query. Value: 0. Refusals, in this order: 1 for fewer than five bytes; 2; 1 for another total than the sizes imply; then 3, 4 and 5
+/* The checks 1 to 6 of a query. Value: 0. Refusals, in this order: 1 for fewer than five bytes; 2; 1 if the total is not what the sizes imply; then 3, 4 and 5
  * of each item in turn; then 6. A query that passes them may still be refused with 8 when it is built. */
 uint32_t order_query_check(const uint8_t *query, size_t query_length);
 
@@ -130,8 +130,7 @@ uint32_t order_query_check(const uint8_t *query, size_t query_length);
 uint64_t order_query_order(const uint8_t *query, size_t query_length, uint8_t i);
 
 /* Dependency i of a query. Value: its set in the lowest byte, its kind in the next one, then its columns, a byte each, the first one lowest, and 0 above
- * them. Kind 0 to 3 is a fix with that many left columns: those, then the right one. Kind 4 is an equal: two columns. Refusals, in this order: 1 to 6;
- * 10 when i is not below D. */
+ * them. Kinds are those of the layout. Refusals, in this order: 1 to 6; 10 when i is not below D. */
 uint64_t order_query_dependency(const uint8_t *query, size_t query_length, uint8_t i);
 
 /* Shows why an interesting order is not held of rows in a produced order under a choice of sets in force. Value: 1 where two rows are written, 0 where
@@ -158,12 +157,12 @@ uint32_t order_table_build(const uint8_t *query, size_t query_length, uint8_t *s
 
 /* Builds as order_table_build does, then answers a list of lookups on the table, in place. A lookup is two bytes: its kind, 0 to enter by a
  * produced order, 1 to take a set, any other to ask for an interesting order, and its handle. They become the answer's: the refusal, 0 for none,
- * and the value. A granted entry or take hands its state to the lookups after it. A last odd byte is kept; on refusal all are. Value and refusals
- * are the build's. */
+ * and the value. A granted entry or take hands its state to the lookups after it; before the first granted entry the state is 0. A last odd byte is
+ * kept; on refusal all are. Value and refusals are the build's. */
 uint32_t order_table_replay(const uint8_t *query, size_t query_length, uint8_t *scratch, size_t scratch_length, uint8_t *output,
                             size_t output_length, uint8_t *lookups, size_t lookups_length);
 
-/* Checks a table's form. Value: 0. Refusals, in this order: 1 for fewer than four bytes; 2; 1 for another total than the sizes imply; 11. A table that was
+/* Checks a table's form. Value: 0. Refusals, in this order: 1 for fewer than four bytes; 2; 1 if the total is not what the sizes imply; 11. A table that was
  * built and not written to since passes. */
 uint32_t order_table_check(const uint8_t *table, size_t table_length);
 

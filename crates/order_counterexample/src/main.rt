@@ -148,7 +148,7 @@ fn read_number(i: usize) -> Word {
     number
 }
 
-// A program cannot set its exit status yet, so what failed is said on standard error, in one line: the numbers are read first, and the file only where they are numbers.
+// A program cannot set its exit status, so what failed is said on standard error, in one line: the numbers are read first, and the file only where they are numbers.
 fn main() {
     if os::arg_count() != 5 {
         io::write_all(

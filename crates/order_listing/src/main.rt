@@ -32,7 +32,7 @@ fn print(front: &[u8]) -> bool {
     io::write_all(STDOUT_FILENO, &text[..length])
 }
 
-// A program cannot set its exit status yet, so what failed is said on standard error.
+// A program cannot set its exit status, so what failed is said on standard error.
 fn main() {
     let mut buffer = [0u8; QUERY_FRONT];
     let input = read_front(STDIN_FILENO, &mut buffer);

@@ -56,7 +56,7 @@ fn print(query: &[u8], table: &[u8]) -> bool {
     io::write_all(STDOUT_FILENO, &text[..length])
 }
 
-// A program cannot set its exit status yet, so what failed is said on standard error.
+// A program cannot set its exit status, so what failed is said on standard error.
 fn main() {
     if os::arg_count() != 3 {
         io::write_all(STDERR_FILENO, b"usage: order_verify QUERY TABLE\n");
