@@ -63,6 +63,12 @@ made_tool="order_tables: making the tool, target/release/order_tables"
 by_rt="rt check order_tables
 rt staticlib order_tables"
 by_cargo="cargo build"
+made_all="$by_rt
+$by_cargo
+$run
+$made_library
+$made_tool
+status 7"
 
 no_rt="order_tables: rt is not installed, and it makes the proved library (README.md names the version of Rattle's kit)"
 same "without rt" "$(launched "$folder/cargo")" "$no_rt
@@ -80,22 +86,12 @@ $made_tool
 order_tables: cargo made no tool
 status 2"
 rm -r "$copy/target"
-same "with nothing made" "$(launched "$both")" "$by_rt
-$by_cargo
-$run
-$made_library
-$made_tool
-status 7"
+same "with nothing made" "$(launched "$both")" "$made_all"
 age
 same "with all made, and neither rt nor cargo" "$(launched "$elsewhere")" "$run
 status 7"
 age crates/theory/specs/Orders.antt
-same "with a newer definition" "$(launched "$both")" "$by_rt
-$by_cargo
-$run
-$made_library
-$made_tool
-status 7"
+same "with a newer definition" "$(launched "$both")" "$made_all"
 age
 rm "$copy/crates/theory/specs/Orders.antt"
 same "with a file of a crate removed" "$(launched "$both" | head -n 2)" "$by_rt"
