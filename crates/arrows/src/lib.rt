@@ -26,7 +26,7 @@ fn single(c: u8) -> Order
     ensures { λ r. ⌜ orderOf r ≡ c ∷ [] ⌝ }
 {
     Order {
-        columns: [c, 0, 0, 0],
+        entries: [c, 0, 0, 0],
         len: 1,
     }
 }
@@ -51,11 +51,11 @@ pub fn add_rule(left: &mut [u16], right: &mut [u16], n: usize, rule: Rule) -> us
         Rule::Fix { count, a, b, c, d } => {
             let k = count as usize;
             let named = Order {
-                columns: [a, b, c, d],
+                entries: [a, b, c, d],
                 len: 4,
             };
             let from = orders::front(named, k);
-            let to = orders::column(named, k);
+            let to = orders::entry(named, k);
             add_arrow(left, right, n, from, to)
         }
         Rule::Equal { a, b } => add_equal(left, right, n, a, b),

@@ -5,10 +5,11 @@ use native.Mathlib.Omega.{arith}
 use mathlib.Core.Path.{_≡_, refl, sym, _∙_, subst}
 use mathlib.Core.Bool.{Bool, true, true≢false}
 use mathlib.Core.Logic.{⊎-elim}
-use mathlib.Core.List.{List, [], _∷_, _++_, List·Memᴰ, List·Memᴰ·head, List·Memᴰ·tail, List·Memᴰ·not-nil, List·Memᴰ·eq-of-singleton, List·Memᴰ·append-cases, Memᴰ·append-left, Memᴰ·append-right}
+use mathlib.Core.List.{List, [], _∷_, _++_, List·Memᴰ, List·Memᴰ·head, List·Memᴰ·tail, List·Memᴰ·not-nil, List·Memᴰ·eq-of-singleton, List·Memᴰ·append-cases, Memᴰ·append-left, Memᴰ·append-right, Memᴰ·map}
 use lib.Bits.{bitOr, or-zero-l}
 use lib.ListN.{length, take, getD}
 use Rattle.theory.specs.Tests.{Says, fails, inMask}
+use Rattle.theory.specs.Orders.{Order, column, columns}
 use Rattle.theory.specs.Refusals.{passed}
 use Rattle.theory.specs.Query.{Bytes, orderCount, orderAt, queryRefusal}
 use Rattle.theory.proofs.Reflect.{says-true, true-says, says-by}
@@ -44,14 +45,18 @@ mask-next l i m h s = rw (take-more l i 0) (mask-more m (getD l i 0) s)
 pub narrow-at : (l : List ℕ) (i : ℕ) → Narrow l → i < length l → getD l i 0 < 16
 narrow-at l i n h = n (getD l i 0) (member-getD l i 0 h)
 
+-- and for the column of each entry of an order
+pub column-narrow : (o : Order) (i : ℕ) → Narrow (columns o) → i < length o → column (getD o i 0) < 16
+column-narrow o i n h = n (column (getD o i 0)) (Memᴰ·map column (member-getD o i 0 h))
+
 -- two columns, the other way round
 pub narrow-swap : (a b : ℕ) → Narrow (a ∷ b ∷ []) → Narrow (b ∷ a ∷ [])
 narrow-swap a b n =
     all-cons {P = λ c. c < 16} (n b (List·Memᴰ·tail (List·Memᴰ·head refl))) (λ c k. n c (List·Memᴰ·head (List·Memᴰ·eq-of-singleton k)))
 
 -- a mask has room for the columns of each order of a query that passes checks 1 to 6
-pub order-narrow : (b : Bytes) → queryRefusal b ≡ passed → (i : ℕ) {o : List ℕ} → o ≡ orderAt b i → i < orderCount b → Narrow o
-order-narrow b e i same h c m =
+pub order-narrow : (b : Bytes) → queryRefusal b ≡ passed → (i : ℕ) (o : Order) → o ≡ orderAt b i → i < orderCount b → Narrow (columns o)
+order-narrow b e i o same h c m =
     let p = query-passed b e in
-    let l = p .order i h .columns .below c (subst (λ k. List·Memᴰ c k) same m) in
+    let l = p .order i h .columns .below c (subst (λ k. List·Memᴰ c (columns k)) same m) in
     omega (arith, l, p .sized .few-columns)

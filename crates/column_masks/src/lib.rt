@@ -22,7 +22,7 @@ pub fn bit(c: u8) -> u16
     1 << c
 }
 
-// The mask of an order's columns.
+// The mask of columns.
 pub fn mask(o: Order) -> u16
     requires { ⌜ Narrow (orderOf o) ⌝ }
     ensures { λ r. ⌜ MaskOf (orderOf o) r ⌝ }
@@ -31,7 +31,7 @@ pub fn mask(o: Order) -> u16
     let mut all: u16 = 0;
     let mut i = 0;
     while i < n {
-        all |= bit(orders::column(o, i));
+        all |= bit(orders::entry(o, i));
         i += 1;
     }
     all

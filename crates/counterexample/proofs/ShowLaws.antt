@@ -2,7 +2,7 @@
 use Prim.Native.Nat.{ℕ, _+_, _*_, _<_}
 use native.Mathlib.Omega.{arith}
 use mathlib.Core.Path.{_≡_, sym, _∙_, ap, ap₂, subst}
-use mathlib.Core.Bool.{true, false}
+use mathlib.Core.Bool.{Bool, not}
 use mathlib.Core.List.{[], _++_, append-assoc, Memᴰ·append-left}
 use lib.ListN.{length, drop, getD, length-append}
 use Rattle.theory.specs.Tests.{bitsOf}
@@ -26,11 +26,11 @@ use Rattle.rules_in_force.specs.Rules.{rulesAt}
 use Rattle.settled.specs.Ends.{rowBy, Ends}
 
 -- two rows of n columns in the first bytes
-both-first : (settled class n : ℕ) (rows : Bytes)
-    → placed 0 (rowBy true settled class n ++ rowBy false settled class n) rows ≡ rowBy true settled class n ++ (rowBy false settled class n ++ drop (2 * n) rows)
-both-first settled class n rows =
-    let one = rowBy true settled class n in
-    let two = rowBy false settled class n in
+both-first : (up : Bool) (settled class n : ℕ) (rows : Bytes)
+    → placed 0 (rowBy up settled class n ++ rowBy (not up) settled class n) rows ≡ rowBy up settled class n ++ (rowBy (not up) settled class n ++ drop (2 * n) rows)
+both-first up settled class n rows =
+    let one = rowBy up settled class n in
+    let two = rowBy (not up) settled class n in
     let long : length (one ++ two) ≡ 2 * n = length-append one two ∙ ap₂ _+_ (entry-count _ 0 n) (entry-count _ 0 n) ∙ omega arith in
     placed-first (one ++ two) rows ∙ append-assoc one two (drop (length (one ++ two)) rows) ∙ ap (λ m. one ++ (two ++ drop m rows)) long
 
@@ -51,16 +51,16 @@ module _ (b : Bytes) (produced sets order : ℕ) {rows : Bytes} (k : Askable b p
   held-shows e = none k (says-true (askable-exactly b produced sets order k .derived) (ends-read tested.Held e))
 
   -- the test stopped, and the two rows by its masks were written
-  pub stop-shows : (settled class : ℕ) → Ends (rulesAt b sets) (orderAt b produced) (orderAt b order) (tested.Stopped settled class)
-      → (n : ℕ) → n ≡ readQuery b .columns → {after : Bytes} → after ≡ placed 0 (rowBy true settled class n ++ rowBy false settled class n) rows
+  pub stop-shows : (settled class : ℕ) (up : Bool) → Ends (rulesAt b sets) (orderAt b produced) (orderAt b order) (tested.Stopped settled class up)
+      → (n : ℕ) → n ≡ readQuery b .columns → {after : Bytes} → after ≡ placed 0 (rowBy up settled class n ++ rowBy (not up) settled class n) rows
       → Shows b produced sets order rows (grant 1) after
-  stop-shows settled class e n same {after} wrote =
-      let t = ends-read (tested.Stopped settled class) e in
+  stop-shows settled class up e n same {after} wrote =
+      let t = ends-read (tested.Stopped settled class up) e in
       let formed = query-formed b (k .checked) in
-      let one = rowBy true settled class (readQuery b .columns) in
-      let two = rowBy false settled class (readQuery b .columns) in
+      let one = rowBy up settled class (readQuery b .columns) in
+      let two = rowBy (not up) settled class (readQuery b .columns) in
       subst (λ l. Shows b produced sets order rows (grant 1) l)
-      (sym (wrote ∙ ap (λ m. placed 0 (rowBy true settled class m ++ rowBy false settled class m) rows) same ∙ both-first settled class (readQuery b .columns) rows))
+      (sym (wrote ∙ ap (λ m. placed 0 (rowBy up settled class m ++ rowBy (not up) settled class m) rows) same ∙ both-first up settled class (readQuery b .columns) rows))
       (two-rows k (says-false (askable-exactly b produced sets order k .derived) (t .0)) one two
       (t .1 (readQuery b .columns)
       (formed .orders (standing (readQuery b) produced) (Memᴰ·append-left (readQuery b .tested) (member-getD (readQuery b .produced) produced [] (k .named .entered))) .below)

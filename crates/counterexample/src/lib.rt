@@ -66,8 +66,12 @@ fn show(
     let n = query_sizes::columns(query) as usize;
     match tested(query, produced, sets, order) {
         Tested::Held => Found::None,
-        Tested::Stopped { settled, class } => {
-            two_rows::write(rows, n, settled, class);
+        Tested::Stopped {
+            settled,
+            class,
+            ascends,
+        } => {
+            two_rows::write(rows, n, ascends, settled, class);
             Found::TwoRows
         }
     }

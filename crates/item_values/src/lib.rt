@@ -1,4 +1,4 @@
-// What an item of a query says, as one number: an order's length and columns, or a dependency's set, kind and columns, a byte each. Every function takes any bytes.
+// What an item of a query says, as one number: an order's length and entries, or a dependency's set, kind and columns, a byte each. Every function takes any bytes.
 use handles::OrderHandle;
 use numbers::limits::BODY_WIDTH;
 use numbers::limits::EQUAL_KIND;
@@ -9,24 +9,24 @@ ghost use Prim.Native.Nat.{_+_, _<_, _≤_, min};
 ghost use Rattle.theory.specs.Limits.{bodyWidth, equalKind};
 ghost use Rattle.theory.specs.Query.{orderCount, orderAt, dependencyAt};
 ghost use Rattle.orders.specs.Orders.{orderOf, ruleIs};
-ghost use Rattle.item_values.specs.Values.{columnsCode, orderCode, kindCode, ruleColumns, dependencyCode};
+ghost use Rattle.item_values.specs.Values.{bytesCode, orderCode, kindCode, ruleColumns, dependencyCode};
 
-// The columns of an order, a byte each.
-fn columns(o: Order) -> u64
-    ensures { λ r. ⌜ (r ≡ columnsCode (orderOf o)) × (r < 4294967296) ⌝ }
+// Up to four bytes as one number, the first lowest.
+fn bytes(o: Order) -> u64
+    ensures { λ r. ⌜ (r ≡ bytesCode (orderOf o)) × (r < 4294967296) ⌝ }
 {
-    orders::column(o, 0) as u64
-        + 256 * (orders::column(o, 1) as u64)
-        + 65536 * (orders::column(o, 2) as u64)
-        + 16777216 * (orders::column(o, 3) as u64)
+    orders::entry(o, 0) as u64
+        + 256 * (orders::entry(o, 1) as u64)
+        + 65536 * (orders::entry(o, 2) as u64)
+        + 16777216 * (orders::entry(o, 3) as u64)
 }
 
-// What item i says as an order: its length, then its columns, a byte each.
+// What item i says as an order: its length, then its entries, a byte each, as the query has them.
 pub fn order_value(query: &[u8], i: OrderHandle) -> u64
     ensures { λ r. ⌜ r ≡ orderCode (orderAt (now (query .entry)) (i .0)) ⌝ }
 {
     let o = query::order(query, i);
-    orders::length(o) as u64 + 256 * columns(o)
+    orders::length(o) as u64 + 256 * bytes(o)
 }
 
 // How many left columns a fix has: its count, at most four.
@@ -52,15 +52,15 @@ fn kind(rule: Rule) -> u64
 
 // A rule's columns, as an order: of a fix the left ones, then the right one.
 fn named(rule: Rule) -> Order
-    ensures { λ r. ⌜ columnsCode (orderOf r) ≡ columnsCode (ruleColumns (ruleIs rule)) ⌝ }
+    ensures { λ r. ⌜ bytesCode (orderOf r) ≡ bytesCode (ruleColumns (ruleIs rule)) ⌝ }
 {
     match rule {
         Rule::Fix { count, a, b, c, d } => Order {
-            columns: [a, b, c, d],
+            entries: [a, b, c, d],
             len: count as usize + 1,
         },
         Rule::Equal { a, b } => Order {
-            columns: [a, b, 0, 0],
+            entries: [a, b, 0, 0],
             len: 2,
         },
     }
@@ -72,5 +72,5 @@ pub fn dependency_value(query: &[u8], i: u8) -> u64
 {
     let d = query::dependency(query, i);
     let rule = d.rule;
-    d.set as u64 + 256 * kind(rule) + 65536 * columns(named(rule))
+    d.set as u64 + 256 * kind(rule) + 65536 * bytes(named(rule))
 }

@@ -11,7 +11,7 @@ pub const MAX_DEPENDENCIES: u8 = 16;
 
 pub const MAX_STATES: usize = 128;
 
-// An order has at most so many columns.
+// An order has at most so many entries.
 pub const MAX_LENGTH: u8 = 4;
 
 // A query: its sizes; an item's four bytes, five with its head; a dependency's head is so many times its kind plus its set; the kind of an equal; an unused byte.
@@ -26,6 +26,9 @@ pub const KIND_UNIT: u8 = 16;
 pub const EQUAL_KIND: u8 = 4;
 
 pub const UNUSED_BYTE: u8 = 255;
+
+// In an order so much is added to a column that descends.
+pub const DESCENDING_UNIT: u8 = 128;
 
 // A table: its sizes; the held bytes of a state; the longest one.
 pub const TABLE_SIZES: usize = 4;

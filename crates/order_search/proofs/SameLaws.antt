@@ -8,7 +8,7 @@ use lib.Seq.{ext-getD}
 use Rattle.theory.specs.Orders.{sameOrder}
 use Rattle.theory.proofs.Reflect.{decides-order, true-says, false-says}
 
--- two orders are told apart by a column or by their lengths
+-- two orders are told apart by an entry or by their lengths
 module _ (a b : List ℕ) where
   pub differ : (i : ℕ) → (getD a i 0 ≡ getD b i 0 → ⊥) → false ≡ sameOrder a b
   differ i n = sym (false-says (decides-order a b) (λ e. n (ap (λ l. getD l i 0) e)))

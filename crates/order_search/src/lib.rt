@@ -1,6 +1,6 @@
-// An order gone through: the place of a column in it, whether a column occurs, and whether two orders are equal. Every function takes any value.
+// An order gone through: the place of an entry in it, whether an entry occurs, and whether two orders are equal. Every function takes any value.
 use orders::Order;
-use orders::column;
+use orders::entry;
 use orders::length;
 ghost use mathlib.Core.Path.{_≡_};
 ghost use lib.Dec.{eqb};
@@ -8,14 +8,14 @@ ghost use Rattle.theory.specs.Tests.{member, position};
 ghost use Rattle.theory.specs.Orders.{sameOrder};
 ghost use Rattle.orders.specs.Orders.{orderOf};
 
-// The place of a column; the length where it does not occur.
-pub fn position(o: Order, c: u8) -> usize
-    ensures { λ r. ⌜ r ≡ position eqb c (orderOf o) ⌝ }
+// The place of an entry; the length where it does not occur.
+pub fn position(o: Order, e: u8) -> usize
+    ensures { λ r. ⌜ r ≡ position eqb e (orderOf o) ⌝ }
 {
     let n = length(o);
     let mut i = 0;
     while i < n {
-        if column(o, i) == c {
+        if entry(o, i) == e {
             return i;
         }
         i += 1;
@@ -23,14 +23,14 @@ pub fn position(o: Order, c: u8) -> usize
     n
 }
 
-// Whether a column occurs.
-pub fn has(o: Order, c: u8) -> bool
-    ensures { λ r. ⌜ r ≡ member eqb c (orderOf o) ⌝ }
+// Whether an entry occurs.
+pub fn has(o: Order, e: u8) -> bool
+    ensures { λ r. ⌜ r ≡ member eqb e (orderOf o) ⌝ }
 {
-    position(o, c) < length(o)
+    position(o, e) < length(o)
 }
 
-// Whether two orders are equal.
+// Whether two orders are equal, directions included.
 pub fn same(a: Order, b: Order) -> bool
     ensures { λ r. ⌜ r ≡ sameOrder (orderOf a) (orderOf b) ⌝ }
 {
@@ -40,7 +40,7 @@ pub fn same(a: Order, b: Order) -> bool
     }
     let mut i = 0;
     while i < n {
-        if column(a, i) != column(b, i) {
+        if entry(a, i) != entry(b, i) {
             return false;
         }
         i += 1;

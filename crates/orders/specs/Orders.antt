@@ -9,9 +9,9 @@ use Rattle.orders.specs.declared.Rule.{Rule}
 use Rattle.orders.specs.declared.Rule.the-variants.{Fix, Equal}
 use Rattle.orders.specs.declared.Dependency.{Dependency}
 
--- The *order* that a value stands for: its first `len` columns, all four where `len` is more.
+-- The *order* that a value stands for: its first `len` entries, all four where `len` is more.
 abbrev pub orderOf : Order → List ℕ
-orderOf o = take (o .len) (o .columns)
+orderOf o = take (o .len) (o .entries)
 
 -- A value that was made stands for the order l, and its length is what it says.
 pub record OrderIs (o : Order) (l : List ℕ) : Type 0 where

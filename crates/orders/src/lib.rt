@@ -1,12 +1,14 @@
 // Orders and dependencies by value. Every function takes any value: a `len` above 4 reads as 4.
+use numbers::limits;
 ghost use mathlib.Core.Path.{_≡_};
 ghost use Prim.Native.Nat.{_≤_, min};
 ghost use lib.ListN.{length, take, getD};
+ghost use Rattle.theory.specs.Orders as theory;
 ghost use Rattle.orders.specs.Orders.{orderOf, OrderIs};
 
-// An order, most significant column first: `len` columns, and entries that say nothing.
+// An order, most significant entry first: `len` entries, each a column with a direction, and behind them some that say nothing.
 pub struct Order {
-    pub columns: [u8; 4],
+    pub entries: [u8; 4],
     pub len: usize,
 }
 
@@ -38,26 +40,61 @@ pub fn least(a: usize, b: usize) -> usize
     if a < b { a } else { b }
 }
 
-// The number of columns.
+// The number of entries.
 pub fn length(o: Order) -> usize
     ensures { λ r. ⌜ (r ≡ length (orderOf o)) × (r ≤ 4) ⌝ }
 {
     least(o.len, 4)
 }
 
-// Column i; 0 past the end.
-pub fn column(o: Order, i: usize) -> u8
+// Entry i; 0 past the end.
+pub fn entry(o: Order, i: usize) -> u8
     ensures { λ r. ⌜ r ≡ getD (orderOf o) i 0 ⌝ }
 {
-    let columns = o.columns;
-    if i < length(o) { columns[i] } else { 0 }
+    let entries = o.entries;
+    if i < length(o) { entries[i] } else { 0 }
 }
 
-// The first n columns.
+// Whether an entry descends.
+pub fn descends(e: u8) -> bool
+    ensures { λ r. ⌜ r ≡ theory.descends e ⌝ }
+{
+    limits::DESCENDING_UNIT <= e
+}
+
+// An entry's column.
+pub fn column_of(e: u8) -> u8
+    ensures { λ r. ⌜ r ≡ theory.column e ⌝ }
+{
+    if descends(e) {
+        e - limits::DESCENDING_UNIT
+    } else {
+        e
+    }
+}
+
+// The column of entry i; 0 past the end.
+pub fn column(o: Order, i: usize) -> u8
+    ensures { λ r. ⌜ r ≡ theory.column (getD (orderOf o) i 0) ⌝ }
+{
+    column_of(entry(o, i))
+}
+
+// The columns of an order's entries.
+pub fn columns(o: Order) -> Order
+    ensures { λ r. ⌜ OrderIs r (theory.columns (orderOf o)) ⌝ }
+{
+    Order {
+        entries: [column(o, 0), column(o, 1), column(o, 2), column(o, 3)],
+        len: length(o),
+    }
+}
+
+// The first n entries.
 pub fn front(o: Order, n: usize) -> Order
     ensures { λ r. ⌜ OrderIs r (take n (orderOf o)) ⌝ }
 {
-    let columns = o.columns;
+    let entries = o.entries;
     let len = least(n, length(o));
-    Order { columns, len }
+    Order { entries, len }
 }

@@ -52,7 +52,7 @@ pub fn body(query: &[u8], i: u16) -> Order
 {
     let at = limits::QUERY_SIZES + item_count(query) as usize + i as usize * limits::BODY_WIDTH;
     Order {
-        columns: [
+        entries: [
             byte(query, at),
             byte(query, at + 1),
             byte(query, at + 2),

@@ -21,13 +21,13 @@ pub fn order(query: &[u8], i: OrderHandle) -> Order
 fn rule(kind: u8, body: Order) -> Rule
     ensures { λ r. ⌜ ruleIs r ≡ ruleOf kind (orderOf body) ⌝ }
 {
-    let a = orders::column(body, 0);
-    let b = orders::column(body, 1);
+    let a = orders::entry(body, 0);
+    let b = orders::entry(body, 1);
     if kind == limits::EQUAL_KIND {
         return Rule::Equal { a, b };
     }
-    let c = orders::column(body, 2);
-    let d = orders::column(body, 3);
+    let c = orders::entry(body, 2);
+    let d = orders::entry(body, 3);
     let count = orders::length(orders::front(body, kind as usize)) as u8;
     Rule::Fix { count, a, b, c, d }
 }

@@ -19,7 +19,7 @@ fn clear_from(body: Order, used: usize) -> bool
     let n = orders::length(body);
     let mut i = used;
     while i < n {
-        if orders::column(body, i) != limits::UNUSED_BYTE {
+        if orders::entry(body, i) != limits::UNUSED_BYTE {
             return false;
         }
         i += 1;
@@ -27,14 +27,14 @@ fn clear_from(body: Order, used: usize) -> bool
     true
 }
 
-// Whether each column is below `columns`.
-fn below(o: Order, columns: u8) -> bool
-    ensures { λ r. ⌜ r ≡ every (λ c. ltb c columns) (orderOf o) ⌝ }
+// Whether each of the named columns is below `columns`.
+fn below(named: Order, columns: u8) -> bool
+    ensures { λ r. ⌜ r ≡ every (λ c. ltb c columns) (orderOf named) ⌝ }
 {
-    let n = orders::length(o);
+    let n = orders::length(named);
     let mut i = 0;
     while i < n {
-        if columns <= orders::column(o, i) {
+        if columns <= orders::entry(named, i) {
             return false;
         }
         i += 1;
@@ -42,14 +42,14 @@ fn below(o: Order, columns: u8) -> bool
     true
 }
 
-// Whether a column stands twice.
-fn repeated(o: Order) -> bool
-    ensures { λ r. ⌜ r ≡ repeats eqb (orderOf o) ⌝ }
+// Whether one of the named columns stands twice.
+fn repeated(named: Order) -> bool
+    ensures { λ r. ⌜ r ≡ repeats eqb (orderOf named) ⌝ }
 {
-    let n = orders::length(o);
+    let n = orders::length(named);
     let mut i = 0;
     while i < n {
-        if order_search::has(orders::front(o, i), orders::column(o, i)) {
+        if order_search::has(orders::front(named, i), orders::entry(named, i)) {
             return true;
         }
         i += 1;
@@ -57,11 +57,10 @@ fn repeated(o: Order) -> bool
     false
 }
 
-// An item's four bytes, of which `used` are columns.
-fn body_refusal(columns: u8, used: usize, body: Order) -> u8
-    ensures { λ r. ⌜ r ≡ bodyRefusal columns used (orderOf body) ⌝ }
+// An item's four bytes, of which `used` name columns.
+fn body_refusal(columns: u8, used: usize, body: Order, named: Order) -> u8
+    ensures { λ r. ⌜ r ≡ bodyRefusal columns used (orderOf body) (orderOf named) ⌝ }
 {
-    let named = orders::front(body, used);
     if !clear_from(body, used) {
         return refusals::ITEM;
     }
@@ -75,14 +74,16 @@ fn body_refusal(columns: u8, used: usize, body: Order) -> u8
     }
 }
 
-// An order, by its head and its four bytes.
+// An order, by its head and its four bytes. It names the columns of its entries.
 fn order_refusal(columns: u8, head: u8, body: Order) -> u8
     ensures { λ r. ⌜ r ≡ orderRefusal columns head (orderOf body) ⌝ }
 {
     if limits::MAX_LENGTH < head {
         refusals::ITEM
     } else {
-        body_refusal(columns, head as usize, body)
+        let used = head as usize;
+        let named = orders::columns(orders::front(body, used));
+        body_refusal(columns, used, body, named)
     }
 }
 
@@ -97,7 +98,7 @@ fn used_by(kind: u8) -> usize
     }
 }
 
-// A dependency, by its head and its four bytes.
+// A dependency, by its head and its four bytes. They are the columns that it names, so 128 or more is none.
 fn dependency_refusal(columns: u8, sets: u8, head: u8, body: Order) -> u8
     ensures { λ r. ⌜ r ≡ dependencyRefusal columns sets head (orderOf body) ⌝ }
 {
@@ -108,7 +109,9 @@ fn dependency_refusal(columns: u8, sets: u8, head: u8, body: Order) -> u8
     if sets <= head % limits::KIND_UNIT {
         return refusals::ITEM;
     }
-    body_refusal(columns, used_by(kind), body)
+    let used = used_by(kind);
+    let named = orders::front(body, used);
+    body_refusal(columns, used, body, named)
 }
 
 // Item i: an order, or behind the orders a dependency.

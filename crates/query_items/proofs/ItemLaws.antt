@@ -3,19 +3,20 @@ use Prim.Native.Nat.{ℕ, zero, suc, _+_, _/_, _%_, _<_, _≤_}
 use native.Mathlib.Omega.{arith}
 use mathlib.Core.Path.{_≡_, refl}
 use mathlib.Core.Bool.{Bool}
-use mathlib.Core.List.{List, [], _∷_, List·Memᴰ, List·Memᴰ·head, List·Memᴰ·tail, List·Memᴰ·not-nil}
+use mathlib.Core.List.{List, [], _∷_, List·Memᴰ, List·Memᴰ·head, List·Memᴰ·tail, List·Memᴰ·not-nil, Memᴰ·map}
 use lib.ListN.{take, getD, length-take}
 use borrow.Author.Tests.{ne-eqb, lt-ltb, le-ltb}
 use Rattle.theory.specs.Tests.{pick, Says, holds, fails}
 use Rattle.theory.specs.Limits.{equalKind}
-use Rattle.theory.specs.Orders.{Rule, fix, equal, columnsOf}
+use Rattle.theory.specs.Orders.{column, Rule, fix, equal, columnsOf}
 use Rattle.theory.specs.Refusals.{passed, handle-refused}
 use Rattle.theory.specs.Query.{Bytes, byteAt, dependencyCount, orderCount, kindOf, headAt, bodyAt, ruleOf, orderAt, dependencyAt, queryRefusal}
 use Rattle.theory.specs.Table.{grant, refuse}
 use Rattle.theory.proofs.Reflect.{says-eqb, says-ltb}
+use Rattle.theory.proofs.EntryLaws.{entry-within}
 use Rattle.theory.proofs.RowLaws.{all-cons, all-append}
 use Rattle.theory.proofs.PassedLaws.{query-passed}
-use Rattle.item_values.specs.Values.{columnsCode, orderCode, kindCode, ruleColumns, dependencyCode}
+use Rattle.item_values.specs.Values.{bytesCode, orderCode, kindCode, ruleColumns, dependencyCode}
 use Rattle.query_items.specs.Items.{itemUnit, itemCode, itemAnswer, orderItem, orderItemCode, dependencyItem, dependencyItemCode}
 
 module _ (query : Bytes) (count i value : ℕ) where
@@ -52,8 +53,8 @@ entry-byte (x ∷ l) h zero = h x (List·Memᴰ·head refl)
 entry-byte (x ∷ l) h (suc i) = entry-byte l (λ c m. h c (List·Memᴰ·tail m)) i
 
 -- four bytes
-columns-fit : (l : List ℕ) → ((c : ℕ) → List·Memᴰ c l → c < 256) → columnsCode l < 4294967296
-columns-fit l h = let byte = entry-byte l h in omega (arith, byte 0, byte 1, byte 2, byte 3)
+bytes-fit : (l : List ℕ) → ((c : ℕ) → List·Memᴰ c l → c < 256) → bytesCode l < 4294967296
+bytes-fit l h = let byte = entry-byte l h in omega (arith, byte 0, byte 1, byte 2, byte 3)
 
 -- an order of a query that passes checks 1 to 6 takes 40 bits
 pub order-value-fits : (query : Bytes) (i : ℕ) → queryRefusal query ≡ passed → i < orderCount query → orderCode (orderAt query i) < 1099511627776
@@ -61,7 +62,7 @@ unfolding orderCode
 order-value-fits query i e h =
     let p = query-passed query e in
     let f = p .order i h in
-    omega (arith, f .short, f .long, columns-fit (orderAt query i) (λ c m. omega (arith, f .columns .below c m, p .sized .few-columns)))
+    omega (arith, f .short, f .long, bytes-fit (orderAt query i) (λ e m. omega (arith, entry-within e, f .columns .below (column e) (Memᴰ·map column m), p .sized .few-columns)))
 
 -- a rule's columns in their sequence are those that it names
 rule-bytes : (r : Rule) → ((c : ℕ) → List·Memᴰ c (columnsOf r) → c < 256) → (c : ℕ) → List·Memᴰ c (ruleColumns r) → c < 256
@@ -83,7 +84,7 @@ dependency-value-fits query i e h =
     let p = query-passed query e in
     let f = p .dependency at (omega arith) (omega arith) in
     let rule = ruleOf (kindOf (headAt query at)) (bodyAt query at) in
-    let columns = columns-fit (ruleColumns rule) (rule-bytes rule (λ c m. omega (arith, f .columns .below c m, p .sized .few-columns))) in
+    let columns = bytes-fit (ruleColumns rule) (rule-bytes rule (λ c m. omega (arith, f .columns .below c m, p .sized .few-columns))) in
     omega (arith, f .set, p .sized .few-sets, kind-fits (kindOf (headAt query at)) (bodyAt query at) (f .kind), columns)
 
 -- so both numbers say their refusal and their value

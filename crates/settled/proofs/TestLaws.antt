@@ -3,38 +3,39 @@ use Prim.Native.Nat.{ℕ, zero, suc, _+_, _-_, _^_, _<_, _≤_}
 use native.Mathlib.Numerals.{add-one}
 use native.Mathlib.Omega.{arith}
 use mathlib.Core.Path.{_≡_, refl, sym, _∙_, ap, ap₂, subst, subst₂}
-use mathlib.Core.Bool.{Bool, true, false, not, true≢false, false≢true}
+use mathlib.Core.Bool.{Bool, true, false, not, _&&_, Bool·beq, true≢false, false≢true}
 use mathlib.Core.Logic.{⊎-elim}
-use mathlib.Core.List.{List, [], _∷_, _++_, map, map-append, map-map, List·Memᴰ·append-cases, List·Memᴰ·eq-of-singleton, Memᴰ·append-left, Memᴰ·append-right, List·Memᴰ·head}
+use mathlib.Core.List.{List, [], _∷_, _++_, map, map-append, map-map, List·Memᴰ·append-cases, List·Memᴰ·eq-of-singleton, Memᴰ·append-left, Memᴰ·append-right, List·Memᴰ·head, List·Memᴰ·not-nil}
 use lib.Bits.{bitOr}
 use lib.Dec.{eqb}
 use lib.IntN.{pos}
 use lib.ListN.{length, take, drop, getD, drop-of-length-le}
 use lib.Seq.{take-suc, drop-cons}
-use Rattle.theory.specs.Tests.{pick, Says, holds, fails, those, member, upFrom, inMask}
-use Rattle.theory.specs.Orders.{Order, Rule, column, columns}
+use Rattle.theory.specs.Tests.{pick, Says, holds, fails, member, upFrom, inMask}
+use Rattle.theory.specs.Orders.{Order, descends, column, columns, Rule}
 use Rattle.theory.specs.Rows.{Counterexample}
-use Rattle.theory.specs.Settled.{Settled, among, settledColumns, settled, isEqual, alike, fromUnsettled, entryHeld, heldBehind, isHeld}
-use Rattle.theory.proofs.Reflect.{says-true, true-says, says-one, says-ltb}
+use Rattle.theory.specs.Settled.{Settled, among, settledColumns, settled, oneClass, alike, fromUnsettled, entryHeld, heldBehind, isHeld}
+use Rattle.theory.proofs.Reflect.{says-true, true-says, false-says, says-one, says-ltb}
 use Rattle.theory.proofs.Picks.{pick-yes}
 use Rattle.theory.proofs.BitLaws.{raised-has, raised-keeps, raised-only}
 use Rattle.theory.proofs.RangeLaws.{map-below}
-use Rattle.theory.proofs.SettledLaws.{settled-through, says-settled}
-use Rattle.theory.proofs.CounterexampleLaws.{Past, past-none, past-more, past-both, past-front, past-met, value, bitRow, stop-at, stop-rows}
-use Rattle.column_masks.proofs.MaskLaws.{says-both}
+use Rattle.theory.proofs.EntryLaws.{below-ascends}
+use Rattle.theory.proofs.SettledLaws.{settled-through, says-settled, says-alike}
+use Rattle.theory.proofs.CounterexampleLaws.{Past, past-none, past-more, past-both, past-front, past-met, firstDescends, value, bitRow, Stop, turned, classBy, stop-at, stop-rows}
+use Rattle.column_masks.proofs.MaskLaws.{says-both, mask-none}
 use Rattle.closure.specs.RuleMasks.{StandFor, SettledMask, ClassesOf, Prepared}
 use Rattle.closure.specs.Closing.{Closes}
 use Rattle.settled.specs.declared.Tested.{Tested}
 use Rattle.settled.specs.declared.Tested.the-variants as tested
 use Rattle.settled.specs.Ends.{valueIn, rowBy, Ends}
-use Rattle.settled.specs.Places.{Skipped, meets}
+use Rattle.settled.specs.Places.{Skipped, classIn, meets}
 
--- one column more behind the first i of an order
+-- one column more behind those of the first i entries of an order
 columns-more : (o : Order) (i : ℕ) → i < length o → columns (take (suc i) o) ≡ columns (take i o) ++ (column (getD o i 0) ∷ [])
 columns-more o i h = ap columns (take-suc o i 0 h) ∙ map-append column (take i o) (getD o i 0 ∷ [])
 
 -- from the place behind the first
-skipped-next : {m : ℕ} {l : List ℕ} {i to : ℕ} → Skipped m l i to → i < to → Skipped m l (suc i) to
+skipped-next : {m : ℕ} {o : Order} {i to : ℕ} → Skipped m o i to → i < to → Skipped m o (suc i) to
 skipped-next k h = record { forth = h; within = k .within; passed = λ j b a. k .passed j b (omega arith); stopped = k .stopped }
 
 -- a mask that has what w settles tells it as the test does
@@ -68,38 +69,67 @@ module _ {rs : List Rule} {w : List ℕ} (m : ℕ) (s : SettledMask rs w m) wher
 
       go : {b : Bool} → Says (i < length l) b → fromUnsettled (settledColumns rs w) (drop i l) ≡ drop to l
       go (holds h) =
-          rw (← same, drop-cons l i 0 h) (ap (byFirst (getD l i 0) (drop (suc i) l)) (mask-tells (getD l i 0) ∙ rw (← same) at (k .stopped (omega arith))))
+          rw (← same, drop-cons l i 0 h) (ap (byFirst (getD l i 0) (drop (suc i) l)) (mask-tells (column (getD l i 0)) ∙ rw (← same) at (k .stopped (omega arith))))
       go (fails h) = rw (← same, drop-of-length-le l {i = i} (omega arith))
   left-from l to (suc n) i e k =
       rw (drop-cons l i 0 (omega (arith, k .within)))
-      (ap (byFirst (getD l i 0) (drop (suc i) l)) (mask-tells (getD l i 0) ∙ k .passed i (omega arith) (omega arith)) ∙ left-from l to n (suc i) (omega arith) (skipped-next k (omega arith)))
+      (ap (byFirst (getD l i 0) (drop (suc i) l)) (mask-tells (column (getD l i 0)) ∙ k .passed i (omega arith) (omega arith)) ∙ left-from l to n (suc i) (omega arith) (skipped-next k (omega arith)))
 
--- the rows of two masks that tell what is settled and what is alike
-module _ (n : ℕ) (rs : List Rule) (w : List ℕ) (c settled′ class : ℕ) (tells : (d : ℕ) → inMask settled′ d ≡ settled rs w d) (classed : (d : ℕ) → inMask class d ≡ alike rs c d) where
-  value-one : (s b : Bool) → pos (valueIn true s b) ≡ value s b
-  value-one true b = refl
-  value-one false true = refl
-  value-one false false = refl
+-- the direction of the entry at a place is that of the first one from there on
+first-descends : (o : Order) (k : ℕ) → firstDescends (drop k o) ≡ descends (getD o k 0)
+first-descends [] zero = sym (below-ascends 0 (omega arith))
+first-descends [] (suc k) = sym (below-ascends 0 (omega arith))
+first-descends (e ∷ o) zero = refl
+first-descends (e ∷ o) (suc k) = first-descends o k
 
-  value-two : (s b : Bool) → pos (valueIn false s b) ≡ value s (not b)
-  value-two true b = refl
-  value-two false true = refl
-  value-two false false = refl
+-- masks that tell the classes tell that of an entry in a direction, and which entries are alike to it
+module _ (rs : List Rule) (classes : List ℕ) (classed : ClassesOf rs classes) (e : ℕ) (narrow : column e < 16) where
+  class-tells : (down : Bool) (d : ℕ) → inMask (classIn classes e down) d ≡ classBy rs e down d
+  class-tells down d = go (Bool·beq (descends e) down)
+    where
+      go : (b : Bool) → inMask (pick b (getD classes (column e) 0) 0) d ≡ pick b (oneClass rs (column e) d) false
+      go true = classed (column e) d narrow
+      go false = false-says (mask-none d) List·Memᴰ·not-nil
 
-  rows-masks : {p o : Order} → Counterexample n rs p o (bitRow n rs w (alike rs c)) (bitRow n rs w (λ d. not (alike rs c d)))
-      → Counterexample n rs p o (map pos (rowBy true settled′ class n)) (map pos (rowBy false settled′ class n))
+  alike-tells : (x : ℕ) → inMask (classIn classes e (descends x)) (column x) ≡ alike rs e x
+  alike-tells x = class-tells (descends x) (column x) ∙ go (oneClass rs (column e) (column x)) (Bool·beq (descends e) (descends x))
+    where
+      go : (c b : Bool) → pick b c false ≡ c && b
+      go true true = refl
+      go true false = refl
+      go false true = refl
+      go false false = refl
+
+-- the rows of two masks that tell what is settled and what is of the class that the rows go by, in the direction of the entry left
+module _ (n : ℕ) (rs : List Rule) (w : List ℕ) (e : ℕ) (down : Bool) (settled′ class : ℕ) (tells : (d : ℕ) → inMask settled′ d ≡ settled rs w d) (classed : (d : ℕ) → inMask class d ≡ classBy rs e down d) where
+  value-one : (up s b : Bool) → pos (valueIn (not up) s b) ≡ value s (turned up b)
+  value-one up true b = refl
+  value-one true false true = refl
+  value-one true false false = refl
+  value-one false false true = refl
+  value-one false false false = refl
+
+  value-two : (up s b : Bool) → pos (valueIn (not (not up)) s b) ≡ value s (not (turned up b))
+  value-two up true b = refl
+  value-two true false true = refl
+  value-two true false false = refl
+  value-two false false true = refl
+  value-two false false false = refl
+
+  rows-masks : {p o : Order} → Counterexample n rs p o (bitRow n rs w (λ d. turned down (classBy rs e down d))) (bitRow n rs w (λ d. not (turned down (classBy rs e down d))))
+      → Counterexample n rs p o (map pos (rowBy (not down) settled′ class n)) (map pos (rowBy (not (not down)) settled′ class n))
   rows-masks {p} {o} =
       subst₂ (Counterexample n rs p o)
-      (map-below _ _ (pos 0) n (λ d h. sym (value-one (inMask settled′ d) (inMask class d) ∙ ap₂ value (tells d) (classed d))) ∙ sym (map-map pos (λ d. valueIn true (inMask settled′ d) (inMask class d)) (upFrom 0 n)))
-      (map-below _ _ (pos 0) n (λ d h. sym (value-two (inMask settled′ d) (inMask class d) ∙ ap₂ (λ s b. value s (not b)) (tells d) (classed d))) ∙ sym (map-map pos (λ d. valueIn false (inMask settled′ d) (inMask class d)) (upFrom 0 n)))
+      (map-below _ _ (pos 0) n (λ d h. sym (value-one down (inMask settled′ d) (inMask class d) ∙ ap₂ (λ s b. value s (turned down b)) (tells d) (classed d))) ∙ sym (map-map pos (λ d. valueIn (not down) (inMask settled′ d) (inMask class d)) (upFrom 0 n)))
+      (map-below _ _ (pos 0) n (λ d h. sym (value-two down (inMask settled′ d) (inMask class d) ∙ ap₂ (λ s b. value s (not (turned down b))) (tells d) (classed d))) ∙ sym (map-map pos (λ d. valueIn (not (not down)) (inMask settled′ d) (inMask class d)) (upFrom 0 n)))
 
 module _ (rs : List Rule) (s : List ℕ) (r : Order) (e : ℕ) (goOn : Order → Bool) where
-  -- the test of an entry by what is compared: whether the two columns are alike, what is left from the first unsettled entry on, and whether the entry is settled
+  -- the test of an entry by what is compared: whether the two entries are alike, what is left from the first unsettled entry on, and whether the entry is settled
   abbrev byClass : Order → Bool → Bool
   byClass rest b = elim b [ true ↦ goOn rest | false ↦ false ]
 
   abbrev byRest : Order → Bool
-  byRest l = elim l [ [] ↦ false | x ∷ rest ↦ byClass rest (alike rs (column e) (column x)) ]
+  byRest l = elim l [ [] ↦ false | x ∷ rest ↦ byClass rest (alike rs e x) ]
 
   abbrev byMask : Bool → Bool
   byMask b = elim b [ true ↦ goOn r | false ↦ byRest (fromUnsettled s r) ]
@@ -113,14 +143,14 @@ module _ (rs : List Rule) (s : List ℕ) (r : Order) (e : ℕ) (goOn : Order →
     entry-missed : fromUnsettled s r ≡ [] → entryHeld rs s r e goOn ≡ false
     entry-missed k = ap byMask h ∙ ap byRest k
 
-    entry-met : (x : ℕ) (rest : Order) (b : Bool) → fromUnsettled s r ≡ x ∷ rest → alike rs (column e) (column x) ≡ b → entryHeld rs s r e goOn ≡ byClass rest b
+    entry-met : (x : ℕ) (rest : Order) (b : Bool) → fromUnsettled s r ≡ x ∷ rest → alike rs e x ≡ b → entryHeld rs s r e goOn ≡ byClass rest b
     entry-met x rest b k a = ap byMask h ∙ ap byRest k ∙ ap (byClass rest) a
 
 -- where an entry is met there is one
-pub meets-there : (classes : List ℕ) (c : ℕ) (l : List ℕ) (i : ℕ) → true ≡ meets classes c l i → i < length l
-meets-there classes c l i = go (says-ltb i (length l))
+pub meets-there : (classes : List ℕ) (e : ℕ) (o : Order) (i : ℕ) → true ≡ meets classes e o i → i < length o
+meets-there classes e o i = go (says-ltb i (length o))
   where
-    go : {b : Bool} → Says (i < length l) b → true ≡ pick b (inMask (getD classes c 0) (getD l i 0)) false → i < length l
+    go : {b : Bool} → Says (i < length o) b → true ≡ pick b (inMask (classIn classes e (descends (getD o i 0))) (column (getD o i 0))) false → i < length o
     go (holds h) e = h
     go (fails h) e = absurd (true≢false e)
 
@@ -147,29 +177,29 @@ module _ (rs : List Rule) (p o : Order) where
 
   module _ {i j m : ℕ} (t : Testing rs p o i j m) where
     -- one settled entry is passed over
-    testing-passes : i < length o → inMask m (getD o i 0) ≡ true → Testing rs p o (suc i) j m
+    testing-passes : i < length o → inMask m (column (getD o i 0)) ≡ true → Testing rs p o (suc i) j m
     testing-passes h k =
         record {
-          mask = rw (columns-more o i h) (mask-stays m (t .mask) (getD o i 0) k);
-          rest = t .rest ∙ at-entry i (drop j p) h ∙ entry-settled rs (settledColumns rs (columns (take i o))) (drop j p) (getD o i 0) _ (mask-tells m (t .mask) (getD o i 0) ∙ k);
-          past = rw (columns-more o i h) (past-more rs (λ d n. Memᴰ·append-left (getD o i 0 ∷ []) n) (t .past));
+          mask = rw (columns-more o i h) (mask-stays m (t .mask) (column (getD o i 0)) k);
+          rest = t .rest ∙ at-entry i (drop j p) h ∙ entry-settled rs (settledColumns rs (columns (take i o))) (drop j p) (getD o i 0) _ (mask-tells m (t .mask) (column (getD o i 0)) ∙ k);
+          past = rw (columns-more o i h) (past-more rs (λ d n. Memᴰ·append-left (column (getD o i 0) ∷ []) n) (t .past));
         }
 
     -- an entry that is not settled uses up the first of what is left that is not, at place k, if the two are alike
-    module _ (h : i < length o) (unsettled : inMask m (getD o i 0) ≡ false) (narrow : getD o i 0 < 16) {k : ℕ} (skipped : Skipped m p j k) (classes : List ℕ) (classed : ClassesOf rs classes) where
+    module _ (h : i < length o) (unsettled : inMask m (column (getD o i 0)) ≡ false) (narrow : column (getD o i 0) < 16) {k : ℕ} (skipped : Skipped m p j k) (classes : List ℕ) (classed : ClassesOf rs classes) where
       left : fromUnsettled (settledColumns rs (columns (take i o))) (drop j p) ≡ drop k p
       left = left-from m (t .mask) p k (k - j) j (omega (arith, skipped .forth)) skipped
 
       entry-meets : (goOn : Order → Bool) (b : Bool) → meets classes (getD o i 0) p k ≡ b
           → entryHeld rs (settledColumns rs (columns (take i o))) (drop j p) (getD o i 0) goOn ≡ pick b (goOn (drop (suc k) p)) false
-      entry-meets goOn b e = go (settledColumns rs (columns (take i o))) (mask-tells m (t .mask) (getD o i 0) ∙ unsettled) left (says-ltb k (length p)) b e
+      entry-meets goOn b e = go (settledColumns rs (columns (take i o))) (mask-tells m (t .mask) (column (getD o i 0)) ∙ unsettled) left (says-ltb k (length p)) b e
         where
-          go : (s : List ℕ) → member eqb (getD o i 0) s ≡ false → fromUnsettled s (drop j p) ≡ drop k p → {l : Bool} → Says (k < length p) l
-              → (b : Bool) → pick l (inMask (getD classes (getD o i 0) 0) (getD p k 0)) false ≡ b → entryHeld rs s (drop j p) (getD o i 0) goOn ≡ pick b (goOn (drop (suc k) p)) false
+          go : (s : List ℕ) → member eqb (column (getD o i 0)) s ≡ false → fromUnsettled s (drop j p) ≡ drop k p → {l : Bool} → Says (k < length p) l
+              → (b : Bool) → pick l (inMask (classIn classes (getD o i 0) (descends (getD p k 0))) (column (getD p k 0))) false ≡ b → entryHeld rs s (drop j p) (getD o i 0) goOn ≡ pick b (goOn (drop (suc k) p)) false
           go s u f (holds l) true e =
-              entry-met rs s (drop j p) (getD o i 0) goOn u (getD p k 0) (drop (suc k) p) true (f ∙ drop-cons p k 0 l) (sym (classed (getD o i 0) (getD p k 0) narrow) ∙ e)
+              entry-met rs s (drop j p) (getD o i 0) goOn u (getD p k 0) (drop (suc k) p) true (f ∙ drop-cons p k 0 l) (sym (alike-tells rs classes classed (getD o i 0) narrow (getD p k 0)) ∙ e)
           go s u f (holds l) false e =
-              entry-met rs s (drop j p) (getD o i 0) goOn u (getD p k 0) (drop (suc k) p) false (f ∙ drop-cons p k 0 l) (sym (classed (getD o i 0) (getD p k 0) narrow) ∙ e)
+              entry-met rs s (drop j p) (getD o i 0) goOn u (getD p k 0) (drop (suc k) p) false (f ∙ drop-cons p k 0 l) (sym (alike-tells rs classes classed (getD o i 0) narrow (getD p k 0)) ∙ e)
           go s u f (fails l) true e = absurd (false≢true e)
           go s u f (fails l) false e = entry-missed rs s (drop j p) (getD o i 0) goOn u (f ∙ drop-of-length-le p {i = k} (omega arith))
 
@@ -181,17 +211,20 @@ module _ (rs : List Rule) (p o : Order) where
       past-meets : k < length p → meets classes (getD o i 0) p k ≡ true → Past rs (columns (take (suc i) o)) p (drop (suc k) p)
       past-meets l e =
           rw (columns-more o i h)
-          (past-met rs (getD o i 0) (getD p k 0) (drop (suc k) p)
+          (past-met rs (column (getD o i 0)) (getD p k 0) (drop (suc k) p)
           (past-both rs (t .past) (subst (Past rs (columns (take i o)) (drop j p)) (left ∙ drop-cons p k 0 l) (past-front rs (columns (take i o)) (drop j p) .0)))
-          (says-true (says-settled (those isEqual rs) (getD o i 0 ∷ []) (getD p k 0)) (sym (classed (getD o i 0) (getD p k 0) narrow) ∙ pick-yes false (true-says (says-ltb k (length p)) l) refl ∙ e)))
+          (says-true (says-alike rs (getD o i 0) (getD p k 0)) (sym (alike-tells rs classes classed (getD o i 0) narrow (getD p k 0)) ∙ pick-yes false (true-says (says-ltb k (length p)) l) refl ∙ e) .0))
 
       -- where it is not met the two rows by the masks show that o is not held
-      testing-fails : meets classes (getD o i 0) p k ≡ false → Ends rs p o (tested.Stopped m (getD classes (getD o i 0) 0))
+      testing-fails : meets classes (getD o i 0) p k ≡ false → Ends rs p o (tested.Stopped m (classIn classes (getD o i 0) (descends (getD p k 0))) (not (descends (getD p k 0))))
       testing-fails e = (
         testing-meets false e,
         λ n pn on small.
-            rows-masks n rs (columns (take i o)) (getD o i 0) m (getD classes (getD o i 0) 0) (λ d. sym (mask-tells m (t .mask) d)) (λ d. classed (getD o i 0) d narrow)
-            (stop-rows n rs p o pn on small (columns (take i o)) (getD o i 0) (stop-at rs p (drop j p) o i h (t .past) (entry-meets (λ rest. true) false e))),
+            let way = ap firstDescends left ∙ first-descends p k in
+            rows-masks n rs (columns (take i o)) (getD o i 0) (descends (getD p k 0)) m (classIn classes (getD o i 0) (descends (getD p k 0))) (λ d. sym (mask-tells m (t .mask) d))
+            (class-tells rs classes classed (getD o i 0) narrow (descends (getD p k 0)))
+            (stop-rows n rs p o pn on small (columns (take i o)) (getD o i 0) (descends (getD p k 0))
+            (subst (λ down. Stop rs (columns (take i o)) (getD o i 0) down p o) way (stop-at rs p (drop j p) o i h (t .past) (entry-meets (λ rest. true) false e)))),
       )
 
   -- several are
@@ -218,24 +251,24 @@ module _ (left right : List ℕ) (n start : ℕ) (classes : List ℕ) (p o : Ord
     pub midway-end : length o ≤ i → Ended left right n start classes p o tested.Held
     midway-end h rs f = t rs f .rest ∙ ap (heldBehind rs (columns (take i o)) (drop j p)) (drop-of-length-le o {i = i} h)
 
-    module _ (h : i < length o) (unsettled : inMask m (getD o i 0) ≡ false) (narrow : getD o i 0 < 16) (k : ℕ) (skipped : Skipped m p j k) where
+    module _ (h : i < length o) (unsettled : inMask m (column (getD o i 0)) ≡ false) (narrow : column (getD o i 0) < 16) (k : ℕ) (skipped : Skipped m p j k) where
       -- an entry is not met
-      pub midway-fails : false ≡ meets classes (getD o i 0) p k → Ended left right n start classes p o (tested.Stopped m (getD classes (getD o i 0) 0))
-      midway-fails e rs f = testing-fails rs p o (t rs f) h unsettled narrow skipped classes (f .alike) (sym e)
+      pub midway-fails : false ≡ meets classes (getD o i 0) p k → Ended left right n start classes p o (tested.Stopped m (classIn classes (getD o i 0) (descends (getD p k 0))) (not (descends (getD p k 0))))
+      midway-fails e rs f = testing-fails rs p o (t rs f) h unsettled narrow skipped classes (f .classed) (sym e)
 
       module _ (e : true ≡ meets classes (getD o i 0) p k) where
         -- the last entry is met
         pub midway-last : i + 1 ≡ length o → Ended left right n start classes p o tested.Held
         midway-last last rs f =
-            testing-meets rs p o (t rs f) h unsettled narrow skipped classes (f .alike) true (sym e) ∙ ap (heldBehind rs (columns (take (suc i) o)) (drop (suc k) p)) (drop-of-length-le o {i = suc i} (omega arith))
+            testing-meets rs p o (t rs f) h unsettled narrow skipped classes (f .classed) true (sym e) ∙ ap (heldBehind rs (columns (take (suc i) o)) (drop (suc k) p)) (drop-of-length-le o {i = suc i} (omega arith))
 
         -- an entry is met and others follow, of which those that are settled now are passed over
-        pub midway-next : (r to : ℕ) → Closes left right n (bitOr m (2 ^ getD o i 0)) r → Skipped r o (i + 1) to → Midway left right n start classes p o to (k + 1) r
+        pub midway-next : (r to : ℕ) → Closes left right n (bitOr m (2 ^ column (getD o i 0))) r → Skipped r o (i + 1) to → Midway left right n start classes p o to (k + 1) r
         midway-next r to closes s rs f =
             let met : Testing rs p o (suc i) (suc k) r =
             record {
-              mask = rw (columns-more o i h) (mask-grows m (t rs f .mask) (getD o i 0) r (f .rules) closes);
-              rest = testing-meets rs p o (t rs f) h unsettled narrow skipped classes (f .alike) true (sym e);
-              past = past-meets rs p o (t rs f) h unsettled narrow skipped classes (f .alike) (meets-there classes (getD o i 0) p k e) (sym e);
+              mask = rw (columns-more o i h) (mask-grows m (t rs f .mask) (column (getD o i 0)) r (f .rules) closes);
+              rest = testing-meets rs p o (t rs f) h unsettled narrow skipped classes (f .classed) true (sym e);
+              past = past-meets rs p o (t rs f) h unsettled narrow skipped classes (f .classed) (meets-there classes (getD o i 0) p k e) (sym e);
             } in
             rw (add-one k) (testing-skips rs p o to (to - suc i) (suc i) (omega (arith, s .forth)) met (rw (add-one i) at s))

@@ -13,20 +13,20 @@ use Rattle.theory.specs.Table.{bit}
 use Rattle.settled.specs.declared.Tested.{Tested}
 use Rattle.settled.specs.declared.Tested.the-variants as tested
 
--- A row's value in a column, by whether the column is settled and whether it is in the class: 0 where it is settled, and elsewhere the first row of two has 1 in the class
--- and the second has 1 in all other columns.
+-- A row's value in a column, by whether the column is settled and whether it is in the class: 0 where it is settled, and elsewhere the one row of two has 1 in the class and
+-- the other has 1 in all other columns.
 abbrev pub valueIn : Bool → Bool → Bool → ℕ
-valueIn first settled class = pick settled 0 (bit (pick first class (not class)))
+valueIn inside settled class = pick settled 0 (bit (pick inside class (not class)))
 
--- The first row or the second of two rows of n columns, by the masks of the settled columns and of the class.
+-- The one row or the other of two rows of n columns, by the masks of the settled columns and of the class.
 abbrev pub rowBy : Bool → ℕ → ℕ → ℕ → Bytes
-rowBy first settled class n = map (λ c. valueIn first (inMask settled c) (inMask class c)) (upFrom 0 n)
+rowBy inside settled class n = map (λ c. valueIn inside (inMask settled c) (inMask class c)) (upFrom 0 n)
 
 -- The test says whether the order is held, and where it stops, the two rows by its masks show that it is not: rows of any width that has all columns of both orders and
--- of the rules.
+-- of the rules. The one with 1 in the class comes first where the produced order's entry ascends, else the other.
 abbrev pub Ends : List Rule → Order → Order → Tested → Type 0
 Ends rs p o tested.Held = isHeld rs p o ≡ true
-Ends rs p o (tested.Stopped settled class) =
+Ends rs p o (tested.Stopped settled class ascends) =
     (isHeld rs p o ≡ false)
     × ((n : ℕ) → ((c : ℕ) → List·Memᴰ c (columns p) → c < n) → ((c : ℕ) → List·Memᴰ c (columns o) → c < n) → RulesBelow n rs
-    → Counterexample n rs p o (map pos (rowBy true settled class n)) (map pos (rowBy false settled class n)))
+    → Counterexample n rs p o (map pos (rowBy ascends settled class n)) (map pos (rowBy (not ascends) settled class n)))

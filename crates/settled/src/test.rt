@@ -5,17 +5,17 @@ ghost use mathlib.Core.Path.{_≡_};
 ghost use mathlib.Core.List.{List};
 ghost use Prim.Native.Nat.{_≤_, _<_};
 ghost use lib.ListN.{length};
-ghost use Rattle.theory.specs.Orders.{Rule};
+ghost use Rattle.theory.specs.Orders.{descends, column, columns, Rule};
 ghost use Rattle.theory.specs.Settled.{isHeld};
 ghost use Rattle.orders.specs.Orders.{orderOf};
 ghost use Rattle.column_masks.specs.Masks.{Narrow};
 ghost use Rattle.closure.specs.RuleMasks.{Prepared};
 ghost use Rattle.settled.specs.Ends.{Ends};
-ghost use Rattle.settled.specs.Places.{Skipped, meets};
+ghost use Rattle.settled.specs.Places.{Skipped, classIn, meets};
 
-// The first place from one on where the order has a column that the mask does not have; the length where there is none.
+// The first place from one on where the order has an entry whose column the mask does not have; the length where there is none.
 fn unsettled(o: Order, from: usize, mask: u16) -> usize
-    requires { ⌜ Narrow (orderOf o) × (from ≤ length (orderOf o)) ⌝ }
+    requires { ⌜ Narrow (columns (orderOf o)) × (from ≤ length (orderOf o)) ⌝ }
     ensures { λ r. ⌜ Skipped mask (orderOf o) from r ⌝ }
 {
     let n = orders::length(o);
@@ -29,13 +29,27 @@ fn unsettled(o: Order, from: usize, mask: u16) -> usize
     i
 }
 
-// Whether the produced order has an entry at a place, and its column is alike to c.
-fn meets(classes: &[u16], c: u8, p: Order, at: usize) -> bool
-    requires { ⌜ (length (now classes) ≡ 16) × (c < 16) × Narrow (orderOf p) ⌝ }
-    ensures { λ r. ⌜ r ≡ meets (now (classes .entry)) c (orderOf p) at ⌝ }
+// The class of an entry's column, where the entry has the direction of another; else none.
+fn class_by(classes: &[u16], e: u8, x: u8) -> u16
+    requires { ⌜ (length (now classes) ≡ 16) × (column e < 16) ⌝ }
+    ensures { λ r. ⌜ r ≡ classIn (now (classes .entry)) e (descends x) ⌝ }
+{
+    let c = orders::column_of(e) as usize;
+    if orders::descends(e) == orders::descends(x) {
+        classes[c]
+    } else {
+        0
+    }
+}
+
+// Whether the produced order has an entry at a place that is alike to e.
+fn meets(classes: &[u16], e: u8, p: Order, at: usize) -> bool
+    requires { ⌜ (length (now classes) ≡ 16) × (column e < 16) × Narrow (columns (orderOf p)) ⌝ }
+    ensures { λ r. ⌜ r ≡ meets (now (classes .entry)) e (orderOf p) at ⌝ }
 {
     if at < orders::length(p) {
-        column_masks::has(classes[c as usize], orders::column(p, at))
+        let x = orders::entry(p, at);
+        column_masks::has(class_by(classes, e, x), orders::column_of(x))
     } else {
         false
     }
@@ -52,7 +66,7 @@ pub fn test(
     p: Order,
     o: Order,
 ) -> Tested
-    requires { ⌜ (n ≤ length (now left)) × (n ≤ length (now right)) × (length (now classes) ≡ 16) × Narrow (orderOf p) × Narrow (orderOf o) ⌝ }
+    requires { ⌜ (n ≤ length (now left)) × (n ≤ length (now right)) × (length (now classes) ≡ 16) × Narrow (columns (orderOf p)) × Narrow (columns (orderOf o)) ⌝ }
     ensures { λ r. ⌜ ((rs : List Rule) → Prepared rs (now (left .entry)) (now (right .entry)) n start (now (classes .entry)) → Ends rs (orderOf p) (orderOf o) r) ⌝ }
 {
     let m = orders::length(o);
@@ -60,18 +74,25 @@ pub fn test(
     let mut i = unsettled(o, 0, mask);
     let mut j = 0;
     while i < m {
-        let c = orders::column(o, i);
+        let e = orders::entry(o, i);
         j = unsettled(p, j, mask);
-        if !meets(classes, c, p, j) {
+        if !meets(classes, e, p, j) {
+            let x = orders::entry(p, j);
             return Tested::Stopped {
                 settled: mask,
-                class: classes[c as usize],
+                class: class_by(classes, e, x),
+                ascends: !orders::descends(x),
             };
         }
         if i + 1 == m {
             return Tested::Held;
         }
-        mask = closure::close(left, right, n, mask | column_masks::bit(c));
+        mask = closure::close(
+            left,
+            right,
+            n,
+            mask | column_masks::bit(orders::column_of(e)),
+        );
         i = unsettled(o, i + 1, mask);
         j += 1;
     }
@@ -88,11 +109,15 @@ pub fn held(
     p: Order,
     o: Order,
 ) -> bool
-    requires { ⌜ (n ≤ length (now left)) × (n ≤ length (now right)) × (length (now classes) ≡ 16) × Narrow (orderOf p) × Narrow (orderOf o) ⌝ }
+    requires { ⌜ (n ≤ length (now left)) × (n ≤ length (now right)) × (length (now classes) ≡ 16) × Narrow (columns (orderOf p)) × Narrow (columns (orderOf o)) ⌝ }
     ensures { λ r. ⌜ ((rs : List Rule) → Prepared rs (now (left .entry)) (now (right .entry)) n start (now (classes .entry)) → r ≡ isHeld rs (orderOf p) (orderOf o)) ⌝ }
 {
     match test(left, right, n, start, classes, p, o) {
         Tested::Held => true,
-        Tested::Stopped { settled, class } => false,
+        Tested::Stopped {
+            settled,
+            class,
+            ascends,
+        } => false,
     }
 }

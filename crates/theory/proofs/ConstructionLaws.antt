@@ -59,7 +59,7 @@ module _ (q : Query) (formed : WellFormed q) where
 
   -- For every produced order, sets and interesting order three things are one: derived, true of all rows, and found by the closure test.
   pub query-exactly : (p o : Order) (ss : List ℕ) → List·Memᴰ p (q .produced) → List·Memᴰ o (interesting q) → Exact (q .columns) (rulesOf q ss) p o (isHeld (rulesOf q ss) p o)
-  query-exactly p o ss mp mo = held-exactly (q .columns) (rulesOf q ss) p o (formed .orders p (Memᴰ·append-left (q .tested) mp)) (formed .orders o mo) (rules-below ss)
+  query-exactly p o ss mp mo = held-exactly (q .columns) (formed .room) (rulesOf q ss) p o (formed .orders p (Memᴰ·append-left (q .tested) mp)) (formed .orders o mo) (rules-below ss)
 
   -- An interesting order is held after a run exactly when the derivation gives it.
   pub answers-tell : Tells q (answersOf q)

@@ -1,30 +1,35 @@
 -- Where the closure test says no, two rows show it. It stops at an entry of the order looked for that is unsettled, where the first unsettled entry left of the produced
--- order is not alike to it, or none is left. Two rows alike in the settled columns alone, the one higher in the entry's class and the other everywhere else, stand in the
--- produced order, obey the rules, and do not stand in the order looked for.
+-- order is not alike to it, or none is left. Two rows alike in the settled columns alone stand in the produced order, obey the rules, and do not stand in the order looked for:
+-- the one higher in the entry's class, or nowhere where the two directions differ, and the other everywhere else; the one first where the entry left ascends, else the other.
 use Prim.Native.Nat.{ℕ, zero, suc, _<_}
 use native.Mathlib.Nat.{le-of-suc-le-suc}
 use native.Mathlib.Omega.{arith}
 use mathlib.Core.Path.{_≡_, refl, sym, _∙_, ap, ap₂, subst}
-use mathlib.Core.Bool.{Bool, true, false, not, true≢false}
+use mathlib.Core.Bool.{Bool, true, false, not, Bool·beq, true≢false, false≢true}
 use mathlib.Core.Logic.{_⊎_, inl, inr, ⊎-elim}
 use mathlib.Core.List.{List, [], _∷_, _++_, map, List·Memᴰ, List·Memᴰ·head, List·Memᴰ·tail, List·Memᴰ·not-nil, List·Memᴰ·eq-of-singleton, Memᴰ·append-left, Memᴰ·append-right, Memᴰ·map, Memᴰ·of-map}
 use lib.IntN.{ℤ, pos}
 use lib.Signed.{_<ℤ_, ltZ-yes, <ℤ-irrefl}
 use lib.ListN.{length, take, getD, List·getD-eq-default}
 use Rattle.theory.specs.Tests.{pick, Says, holds, fails, those, upFrom}
-use Rattle.theory.specs.Orders.{Order, column, columns, Rule, fix, equal, RulesBelow}
-use Rattle.theory.specs.Rows.{Row, cell, Below, Stands, ObeysAll, Counterexample, Broken}
-use Rattle.theory.specs.Settled.{Settled, among, fixed, equalled, settledColumns, settled, isEqual, alike, fromUnsettled, entryHeld, heldBehind, isHeld}
-use Rattle.theory.proofs.Reflect.{true-says, false-says, says-one, says-as, says-ltb}
+use Rattle.theory.specs.Orders.{Order, descends, column, columns, Rule, fix, equal, RulesBelow}
+use Rattle.theory.specs.Rows.{Row, cell, Sooner, Below, Stands, ObeysAll, Counterexample, Broken}
+use Rattle.theory.specs.Settled.{Settled, among, fixed, equalled, settledColumns, settled, isEqual, oneClass, alike, fromUnsettled, entryHeld, heldBehind, isHeld}
+use Rattle.theory.proofs.Reflect.{true-says, false-says, says-one, says-as, says-ltb, decides-bool}
 use Rattle.theory.proofs.ListLaws.{Within, member-getD}
 use Rattle.theory.proofs.RowLaws.{all-cons}
 use Rattle.theory.proofs.RangeLaws.{entry-of, entry-count}
-use Rattle.theory.proofs.RowTheorem.{column-skip}
-use Rattle.theory.proofs.SettledLaws.{member-those, those-member, settled-through, settled-more, says-settled}
+use Rattle.theory.proofs.RowTheorem.{entry-skip}
+use Rattle.theory.proofs.SettledLaws.{member-those, those-member, settled-through, settled-more, says-settled, EntriesAlike, says-alike}
 
--- in column d the first row is neither below the second nor alike to it
-abbrev Above : Row → Row → ℕ → Type 0
-Above x y d = ¬ ((cell x d <ℤ cell y d) ⊎ (cell x d ≡ cell y d))
+-- in column d, taken in a direction, the first row comes neither sooner than the second nor is alike to it
+abbrev Later : Bool → Row → Row → ℕ → Type 0
+Later down x y d = ¬ (Sooner down (cell x d) (cell y d) ⊎ (cell x d ≡ cell y d))
+
+-- whether the first entry descends; where there is none, it does not
+abbrev pub firstDescends : Order → Bool
+firstDescends [] = false
+firstDescends (e ∷ o) = descends e
 
 module _ (rs : List Rule) where
   -- the rows are alike in each column that w settles
@@ -40,7 +45,7 @@ module _ (rs : List Rule) where
   past-none w r = record { part = λ d m. m; skip = λ x y a b. b }
 
   past-one : {w : List ℕ} (e : ℕ) (r : Order) → Settled rs w (column e) → Past w (e ∷ r) r
-  past-one e r t = record { part = λ d m. List·Memᴰ·tail m; skip = λ x y a b. column-skip (a (column e) t) b }
+  past-one e r t = record { part = λ d m. List·Memᴰ·tail m; skip = λ x y a b. entry-skip (descends e) (a (column e) t) b }
 
   pub past-both : {w : List ℕ} {r s t : Order} → Past w r s → Past w s t → Past w r t
   past-both p q = record { part = λ d m. p .part d (q .part d m); skip = λ x y a b. q .skip x y a (p .skip x y a b) }
@@ -72,93 +77,101 @@ module _ (rs : List Rule) where
   past-met {w} c x rest p s =
       past-both (past-more (λ d m. Memᴰ·append-left (c ∷ []) m) p) (past-one x rest (alike-settled (among (Memᴰ·append-right w (List·Memᴰ·head refl))) s))
 
-  -- the test stops at column c: rows that agree do not compare below along r where the first is above in each column that is neither settled nor of c's class
-  abbrev pub Stuck : List ℕ → ℕ → Order → Type 0
-  Stuck w c r = (x y : Row) → Agree w x y → ((d : ℕ) → List·Memᴰ d (columns r) → ¬ Settled rs w d → ¬ Settled (those isEqual rs) (c ∷ []) d → Above x y d) → ¬ Below x y r
+  -- the test stops at entry e, where the entry left of r has the direction `down`: rows that agree do not compare below along r where, in that direction, the first comes
+  -- later in each column that is neither settled nor, where e has that direction too, of e's class
+  abbrev pub Stuck : List ℕ → ℕ → Bool → Order → Type 0
+  Stuck w e down r =
+      (x y : Row) → Agree w x y
+      → ((d : ℕ) → List·Memᴰ d (columns r) → ¬ Settled rs w d → (descends e ≡ down → ¬ Settled (those isEqual rs) (column e ∷ []) d) → Later down x y d) → ¬ Below x y r
 
-  past-stuck : {w : List ℕ} {c : ℕ} {r rest : Order} → Past w r rest → Stuck w c rest → Stuck w c r
-  past-stuck p s x y a h b = s x y a (λ d m. h d (p .part d m)) (p .skip x y a b)
+  past-stuck : {w : List ℕ} (e : ℕ) {down : Bool} {r rest : Order} → Past w r rest → Stuck w e down rest → Stuck w e down r
+  past-stuck e p s x y a h b = s x y a (λ d m. h d (p .part d m)) (p .skip x y a b)
 
-  -- why an entry with column c is not held: what follows it is not, or the test stops at it
-  data Unheld (w : List ℕ) (r : Order) (c : ℕ) (goOn : Order → Bool) : Type 0 where
-    later : (rest : Order) → goOn rest ≡ false → Past (w ++ (c ∷ [])) r rest → Unheld w r c goOn
-    stops : ¬ Settled rs w c → Stuck w c r → Unheld w r c goOn
+  -- why an entry is not held, where `front` is what is left from the first unsettled entry on: what follows it is not, or the test stops at it
+  data Unheld (w : List ℕ) (r front : Order) (e : ℕ) (goOn : Order → Bool) : Type 0 where
+    later : (rest : Order) → goOn rest ≡ false → Past (w ++ (column e ∷ [])) r rest → Unheld w r front e goOn
+    stops : ¬ Settled rs w (column e) → Stuck w e (firstDescends front) r → Unheld w r front e goOn
 
-  entry-unheld : (w : List ℕ) (r : Order) (e : ℕ) (goOn : Order → Bool) → entryHeld rs (settledColumns rs w) r e goOn ≡ false → Unheld w r (column e) goOn
+  entry-unheld : (w : List ℕ) (r : Order) (e : ℕ) (goOn : Order → Bool) → entryHeld rs (settledColumns rs w) r e goOn ≡ false
+      → Unheld w r (fromUnsettled (settledColumns rs w) r) e goOn
   entry-unheld w r e goOn = atEntry (says-settled rs w (column e))
     where
       atClass : ¬ Settled rs w (column e) → {x : ℕ} {rest : Order} → Past w r (x ∷ rest) → ¬ Settled rs w (column x)
-          → {b : Bool} → Says (Settled (those isEqual rs) (column e ∷ []) (column x)) b → elim b [ true ↦ goOn rest | false ↦ false ] ≡ false → Unheld w r (column e) goOn
-      atClass f {x} {rest} p g (holds s) k = later rest k (past-met (column e) x rest p s)
+          → {b : Bool} → Says (EntriesAlike rs e x) b → elim b [ true ↦ goOn rest | false ↦ false ] ≡ false → Unheld w r (x ∷ rest) e goOn
+      atClass f {x} {rest} p g (holds s) k = later rest k (past-met (column e) x rest p (s .0))
       atClass f {x} {rest} p g (fails s) k =
-          stops f (past-stuck p (λ u v a h b. h (column x) (List·Memᴰ·head refl) g s (⊎-elim inl (λ t. inr (t .0)) b)))
+          stops f (past-stuck e p (λ u v a h b. h (column x) (List·Memᴰ·head refl) g (λ way t. s (t, way)) (⊎-elim inl (λ t. inr (t .0)) b)))
 
       atFront : ¬ Settled rs w (column e) → (front : Order) → Past w r front × Open w front
-          → elim front [ [] ↦ false | x ∷ rest ↦ elim (alike rs (column e) (column x)) [ true ↦ goOn rest | false ↦ false ] ] ≡ false → Unheld w r (column e) goOn
-      atFront f [] p k = stops f (past-stuck (p .0) (λ u v a h b. b))
-      atFront f (x ∷ rest) p k = atClass f (p .0) (p .1) (says-settled (those isEqual rs) (column e ∷ []) (column x)) k
+          → elim front [ [] ↦ false | x ∷ rest ↦ elim (alike rs e x) [ true ↦ goOn rest | false ↦ false ] ] ≡ false → Unheld w r front e goOn
+      atFront f [] p k = stops f (past-stuck e (p .0) (λ u v a h b. b))
+      atFront f (x ∷ rest) p k = atClass f (p .0) (p .1) (says-alike rs e x) k
 
       atEntry : {b : Bool} → Says (Settled rs w (column e)) b
           → elim b [
             | true ↦ goOn r
-            | false ↦ elim (fromUnsettled (settledColumns rs w) r) [ [] ↦ false | x ∷ rest ↦ elim (alike rs (column e) (column x)) [ true ↦ goOn rest | false ↦ false ] ]
-          ] ≡ false → Unheld w r (column e) goOn
+            | false ↦ elim (fromUnsettled (settledColumns rs w) r) [ [] ↦ false | x ∷ rest ↦ elim (alike rs e x) [ true ↦ goOn rest | false ↦ false ] ]
+          ] ≡ false → Unheld w r (fromUnsettled (settledColumns rs w) r) e goOn
       atEntry (holds t) k = later r k (past-none (w ++ (column e ∷ [])) r)
       atEntry (fails f) k = atFront f (fromUnsettled (settledColumns rs w) r) (past-front w r) k
 
-  -- the test stops behind entries with the columns w, at column c, which is unsettled: rows that agree before it and compare below in it compare so along o
-  pub record Stop (w : List ℕ) (c : ℕ) (r o : Order) : Type 0 where
-    pub unsettled : ¬ Settled rs w c
-    pub named : List·Memᴰ c (columns o)
-    pub below : (x y : Row) → Agree w x y → (cell x c <ℤ cell y c) → Below x y o
-    pub stuck : Stuck w c r
+  -- the test stops behind entries with the columns w, at entry e, which is unsettled, where the entry left of r has the direction `down`: rows that agree before e and of
+  -- which the first comes sooner in it compare so along o
+  pub record Stop (w : List ℕ) (e : ℕ) (down : Bool) (r o : Order) : Type 0 where
+    pub unsettled : ¬ Settled rs w (column e)
+    pub named : List·Memᴰ (column e) (columns o)
+    pub below : (x y : Row) → Agree w x y → Sooner (descends e) (cell x (column e)) (cell y (column e)) → Below x y o
+    pub stuck : Stuck w e down r
 
   -- rows that agree in the columns of the first entries compare by the next one
   below-at : (o : Order) (i : ℕ) → i < length o → (x y : Row) → ((d : ℕ) → List·Memᴰ d (columns (take i o)) → cell x d ≡ cell y d)
-      → (cell x (column (getD o i 0)) <ℤ cell y (column (getD o i 0))) → Below x y o
+      → Sooner (descends (getD o i 0)) (cell x (column (getD o i 0))) (cell y (column (getD o i 0))) → Below x y o
   below-at [] i h x y a l = let z : ⊥ = omega arith in absurd z
   below-at (e ∷ o) zero h x y a l = inl l
   below-at (e ∷ o) (suc i) h x y a l = inr (a (column e) (List·Memᴰ·head refl), below-at o i (le-of-suc-le-suc h) x y (λ d m. a d (List·Memᴰ·tail m)) l)
 
   -- the test stops at entry i of o, where it is not held whatever follows it
   pub stop-at : (p r o : Order) (i : ℕ) → i < length o → Past (columns (take i o)) p r
-      → entryHeld rs (settledColumns rs (columns (take i o))) r (getD o i 0) (λ rest. true) ≡ false → Stop (columns (take i o)) (column (getD o i 0)) p o
+      → entryHeld rs (settledColumns rs (columns (take i o))) r (getD o i 0) (λ rest. true) ≡ false
+      → Stop (columns (take i o)) (getD o i 0) (firstDescends (fromUnsettled (settledColumns rs (columns (take i o))) r)) p o
   stop-at p r o i h past k = go (entry-unheld (columns (take i o)) r (getD o i 0) (λ rest. true) k)
     where
-      go : Unheld (columns (take i o)) r (column (getD o i 0)) (λ rest. true) → Stop (columns (take i o)) (column (getD o i 0)) p o
+      go : Unheld (columns (take i o)) r (fromUnsettled (settledColumns rs (columns (take i o))) r) (getD o i 0) (λ rest. true)
+          → Stop (columns (take i o)) (getD o i 0) (firstDescends (fromUnsettled (settledColumns rs (columns (take i o))) r)) p o
       go (later rest q t) = absurd (true≢false q)
       go (stops f s) =
           record {
             unsettled = f;
             named = Memᴰ·map column (member-getD o i 0 h);
             below = λ x y a. below-at o i h x y (λ d m. a d (among m));
-            stuck = past-stuck past s;
+            stuck = past-stuck (getD o i 0) past s;
           }
 
   -- it stops somewhere behind w
   abbrev Stops : List ℕ → Order → Order → Type 0
-  Stops w r o = (v : List ℕ) × (c : ℕ) × Within w v × Stop v c r o
+  Stops w r o = (v : List ℕ) × (e : ℕ) × (down : Bool) × Within w v × Stop v e down r o
 
   stop : (w : List ℕ) (r o : Order) → heldBehind rs w r o ≡ false → Stops w r o
   stop w r [] k = absurd (true≢false k)
   stop w r (e ∷ o) k = go (λ rest. stop (w ++ (column e ∷ [])) rest o) (entry-unheld w r e (λ rest. heldBehind rs (w ++ (column e ∷ [])) rest o) k)
     where
       go : ((rest : Order) → heldBehind rs (w ++ (column e ∷ [])) rest o ≡ false → Stops (w ++ (column e ∷ [])) rest o)
-          → Unheld w r (column e) (λ rest. heldBehind rs (w ++ (column e ∷ [])) rest o) → Stops w r (e ∷ o)
+          → Unheld w r (fromUnsettled (settledColumns rs w) r) e (λ rest. heldBehind rs (w ++ (column e ∷ [])) rest o) → Stops w r (e ∷ o)
       go on (later rest q p) =
           let s = on rest q in
-          let behind = s .2 in (
+          let behind = s .3 in (
             s .0,
             s .1,
+            s .2,
             λ d m. behind d (Memᴰ·append-left (column e ∷ []) m),
             record {
-              unsettled = s .3 .unsettled;
-              named = List·Memᴰ·tail (s .3 .named);
-              below = λ x y a l. inr (a (column e) (among (behind (column e) (Memᴰ·append-right w (List·Memᴰ·head refl)))), s .3 .below x y a l);
-              stuck = past-stuck (past-more behind p) (s .3 .stuck);
+              unsettled = s .4 .unsettled;
+              named = List·Memᴰ·tail (s .4 .named);
+              below = λ x y a l. inr (a (column e) (among (behind (column e) (Memᴰ·append-right w (List·Memᴰ·head refl)))), s .4 .below x y a l);
+              stuck = past-stuck (s .1) (past-more behind p) (s .4 .stuck);
             },
           )
-      go on (stops f s) = (w, column e, λ d m. m, record { unsettled = f; named = List·Memᴰ·head refl; below = λ x y a l. inl l; stuck = s })
+      go on (stops f s) = (w, e, _, λ d m. m, record { unsettled = f; named = List·Memᴰ·head refl; below = λ x y a l. inl l; stuck = s })
 
 -- 0 in a settled column, elsewhere 1 where a test passes
 abbrev pub value : Bool → Bool → ℤ
@@ -248,48 +261,98 @@ module _ (n : ℕ) (rs : List Rule) (w : List ℕ) (test : ℕ → Bool) (small 
       alone : Fixed (bitRow n rs w test) (bitRow n rs w (λ d. not (test d)))
       alone h = rows-agree n rs w test (λ d. not (test d)) r (fixed m (λ c k. alike-settles c (small (fix l r) m c (List·Memᴰ·tail k)) (h c k)))
 
--- where the test stops, the rows with the bits of the entry's class and their opposites
+-- the two rows of a class where the entry left has a direction: the one with the bits of the class and the other with their opposites, exchanged where it descends
+abbrev pub turned : Bool → Bool → Bool
+turned down b = pick down (not b) b
+
+-- two bits whose first is the direction: the first comes sooner
+bits-sooner : (way : Bool) → Sooner way (pick way (pos 1) (pos 0)) (pick (not way) (pos 1) (pos 0))
+bits-sooner true = ltZ-yes tt
+bits-sooner false = ltZ-yes tt
+
+-- and where it is the opposite, later
+bits-later : (down : Bool) → ¬ (Sooner down (pick (not down) (pos 1) (pos 0)) (pick down (pos 1) (pos 0)) ⊎ (pick (not down) (pos 1) (pos 0) ≡ pick down (pos 1) (pos 0)))
+bits-later true h = ⊎-elim (λ l. l .lt) (bits-differ false) h
+bits-later false h = ⊎-elim (λ l. l .lt) (bits-differ true) h
+
+-- a column outside the class: the first row has the direction of the entry left for its bit
+turned-none : (down : Bool) → turned down false ≡ down
+turned-none true = refl
+turned-none false = refl
+
+not-other : (b c : Bool) → not b ≡ c → b ≡ not c
+not-other true false e = refl
+not-other true true e = absurd (false≢true e)
+not-other false true e = refl
+not-other false false e = absurd (true≢false e)
+
+-- the entry's own class: the second row has the entry's direction for its bit
+turned-own : (down way : Bool) → not (turned down (Bool·beq way down)) ≡ way
+turned-own true true = refl
+turned-own true false = refl
+turned-own false true = refl
+turned-own false false = refl
+
+-- The columns of the class that the rows go by: that of entry e where it has the direction of the entry left, else none.
+abbrev pub classBy : List Rule → ℕ → Bool → ℕ → Bool
+classBy rs e down d = pick (Bool·beq (descends e) down) (oneClass rs (column e) d) false
+
+-- where the test stops, two rows by that class
 pub stop-rows : (n : ℕ) (rs : List Rule) (p o : Order) → ((c : ℕ) → List·Memᴰ c (columns p) → c < n) → ((c : ℕ) → List·Memᴰ c (columns o) → c < n)
-    → RulesBelow n rs → (w : List ℕ) (c : ℕ) → Stop rs w c p o → Counterexample n rs p o (bitRow n rs w (alike rs c)) (bitRow n rs w (λ d. not (alike rs c d)))
-stop-rows n rs p o pn on small w c s =
+    → RulesBelow n rs → (w : List ℕ) (e : ℕ) (down : Bool) → Stop rs w e down p o
+    → Counterexample n rs p o (bitRow n rs w (λ d. turned down (classBy rs e down d))) (bitRow n rs w (λ d. not (turned down (classBy rs e down d))))
+stop-rows n rs p o pn on small w e down s =
     record {
-      one-width = entry-count (λ d. value (settled rs w d) (class d)) 0 n;
-      two-width = entry-count (λ d. value (settled rs w d) (not (class d))) 0 n;
-      one-values = row-values n rs w class;
-      two-values = row-values n rs w (λ d. not (class d));
-      stands = two-stand one two p (s .stuck two one agree above);
-      obeys = opposite-obey n rs w class small (λ a b m. equal-settled (c ∷ []) (those-member isEqual rs m refl));
-      breaks = λ st. st 0 1 (omega arith) (omega arith) (s .below two one agree lower);
+      one-width = entry-count (λ d. value (settled rs w d) (test d)) 0 n;
+      two-width = entry-count (λ d. value (settled rs w d) (not (test d))) 0 n;
+      one-values = row-values n rs w test;
+      two-values = row-values n rs w (λ d. not (test d));
+      stands = two-stand one two p (s .stuck two one agree later);
+      obeys = opposite-obey n rs w test small (λ a b m. ap (λ c. turned down (pick (Bool·beq (descends e) down) c false)) (equal-settled (column e ∷ []) (those-member isEqual rs m refl)));
+      breaks = λ st. st 0 1 (omega arith) (omega arith) (s .below two one agree sooner);
     }
   where
-    class : ℕ → Bool
-    class d = alike rs c d
+    test : ℕ → Bool
+    test d = turned down (classBy rs e down d)
 
     one : Row
-    one = bitRow n rs w class
+    one = bitRow n rs w test
 
     two : Row
-    two = bitRow n rs w (λ d. not (class d))
+    two = bitRow n rs w (λ d. not (test d))
 
     agree : Agree rs w two one
-    agree = rows-agree n rs w (λ d. not (class d)) class
+    agree = rows-agree n rs w (λ d. not (test d)) test
 
-    -- the entry's column: the first row has 1, the second 0
-    lower : cell two c <ℤ cell one c
-    lower =
-        let l = on c (s .named) in
-        let t = true-says (says-settled (those isEqual rs) (c ∷ []) c) (among (List·Memᴰ·head refl)) in
-        rw (row-open n rs w (λ d. not (class d)) c l (s .unsettled), row-open n rs w class c l (s .unsettled), t) (ltZ-yes tt)
+    -- the entry's column: the second row's bit is the entry's direction, the first row's the opposite
+    own : not (test (column e)) ≡ descends e
+    own = go (Bool·beq (descends e) down) (turned-own down (descends e))
+      where
+        mine : oneClass rs (column e) (column e) ≡ true
+        mine = true-says (says-settled (those isEqual rs) (column e ∷ []) (column e)) (among (List·Memᴰ·head refl))
 
-    -- a column neither settled nor of its class: the first row has 0, the second 1
-    above : (d : ℕ) → List·Memᴰ d (columns p) → ¬ Settled rs w d → ¬ Settled (those isEqual rs) (c ∷ []) d → Above two one d
-    above d m f g =
-        let t = false-says (says-settled (those isEqual rs) (c ∷ []) d) g in
-        rw (row-open n rs w (λ e. not (class e)) d (pn d m) f, row-open n rs w class d (pn d m) f, t)
-        (λ h. ⊎-elim (λ l. l .lt) (bits-differ true) h)
+        go : (b : Bool) → not (turned down b) ≡ descends e → not (turned down (pick b (oneClass rs (column e) (column e)) false)) ≡ descends e
+        go true h = ap (λ b. not (turned down b)) mine ∙ h
+        go false h = h
+
+    sooner : Sooner (descends e) (cell two (column e)) (cell one (column e))
+    sooner =
+        let l = on (column e) (s .named) in
+        let other : test (column e) ≡ not (descends e) = not-other (test (column e)) (descends e) own in
+        rw (row-open n rs w (λ d. not (test d)) (column e) l (s .unsettled), row-open n rs w test (column e) l (s .unsettled), own, other) (bits-sooner (descends e))
+
+    -- a column neither settled nor of the class: the first row's bit is the direction of the entry left, the second row's the opposite
+    later : (d : ℕ) → List·Memᴰ d (columns p) → ¬ Settled rs w d → (descends e ≡ down → ¬ Settled (those isEqual rs) (column e ∷ []) d) → Later down two one d
+    later d m f g =
+        let mine : test d ≡ down = ap (turned down) (outside (decides-bool (descends e) down)) ∙ turned-none down in
+        rw (row-open n rs w (λ c. not (test c)) d (pn d m) f, row-open n rs w test d (pn d m) f, mine) (bits-later down)
+      where
+        outside : {b : Bool} → Says (descends e ≡ down) b → pick b (oneClass rs (column e) d) false ≡ false
+        outside (holds q) = false-says (says-settled (those isEqual rs) (column e ∷ []) d) (g q)
+        outside (fails q) = refl
 
 -- Where the closure test says no, two rows of 0 and 1 show it.
 pub fails-rows : (n : ℕ) (rs : List Rule) (p o : Order) → ((c : ℕ) → List·Memᴰ c (columns p) → c < n) → ((c : ℕ) → List·Memᴰ c (columns o) → c < n)
     → RulesBelow n rs → isHeld rs p o ≡ false → Broken n rs p o
 unfolding isHeld
-fails-rows n rs p o pn on small k = let s = stop rs [] p o k in (_, _, stop-rows n rs p o pn on small (s .0) (s .1) (s .3))
+fails-rows n rs p o pn on small k = let s = stop rs [] p o k in (_, _, stop-rows n rs p o pn on small (s .0) (s .1) (s .2) (s .4))

@@ -1,26 +1,18 @@
 -- Document 02, Req 05: an entry whose column is settled by what stands before it goes in and out by steps. The columns that lead to it are put in before it, each by one
 -- rule, and are taken out again from the last to the first; one that stands further behind is taken out there before, and put back at the end.
-use Prim.Native.Nat.{ℕ}
+use Prim.Native.Nat.{ℕ, _<_}
 use mathlib.Core.Path.{_≡_, refl, sym, _∙_, subst}
 use mathlib.Core.Bool.{Bool}
 use mathlib.Core.Logic.{_⊎_, inl, inr, ⊎-elim, _↔_, Iff·trans, Iff·symm}
 use mathlib.Core.List.{List, [], _∷_, _++_, map-append, append-assoc, List·Memᴰ, List·Memᴰ·head, List·Memᴰ·tail, List·Memᴰ·not-nil, List·Memᴰ·cases-cons, List·Memᴰ·append-cases, Memᴰ·append-left, Memᴰ·append-right, Memᴰ·cast, Memᴰ·of-map}
 use Rattle.theory.specs.Tests.{Says, holds, fails, Distinct, empty, also}
-use Rattle.theory.specs.Orders.{Order, column, columns, Rule, Given, by-fix, by-equal, Change, shorten, insert, before, instead, remove, Step, at, given, step, Derived}
+use Rattle.theory.specs.Limits.{descendingUnit}
+use Rattle.theory.specs.Orders.{Order, column, columns, Rule, fix, equal, RulesBelow, Same, Given, by-fix, by-equal, Change, shorten, insert, before, instead, remove, Step, at, given, step, Derived}
 use Rattle.theory.specs.Settled.{Settled, among, fixed, equalled}
 use Rattle.theory.proofs.Reflect.{says-eqb, says-member, decides-number}
 use Rattle.theory.proofs.ListLaws.{Within, distinct-rest, Around, around}
 use Rattle.theory.proofs.RowLaws.{all-cons}
-
--- every column is the column of an entry, and here of one alone
-abbrev pub entry : ℕ → ℕ
-entry c = c
-
-pub column-entry : (c : ℕ) → column (entry c) ≡ c
-column-entry c = refl
-
-pub one-entry : (x e : ℕ) → column x ≡ column e → x ≡ e
-one-entry x e q = q
+use Rattle.theory.proofs.EntryLaws.{below-column}
 
 module _ {c : ℕ} (v : Order) where
   -- a column of an ordering in two parts is in one of them
@@ -64,15 +56,21 @@ module _ {rs : List Rule} where
   change-distinct : {v s t : Order} → Change rs v s t → Distinct (columns (v ++ s)) → Distinct (columns (v ++ t))
   change-distinct {v} (shorten {x}) d = distinct-out v x [] d .1
   change-distinct {v} (insert {e} {s} g n k) d = distinct-in v e s d (λ m. ⊎-elim n k (columns-cases v s m))
-  change-distinct {v} (before {a} {b} {s} g n k) d = distinct-in v b (a ∷ s) d (λ m. ⊎-elim n k (columns-cases v (a ∷ s) m))
-  change-distinct {v} (instead {a} {b} {s} g n k) d =
+  change-distinct {v} (before {a} {b} {s} g w n k) d = distinct-in v b (a ∷ s) d (λ m. ⊎-elim n k (columns-cases v (a ∷ s) m))
+  change-distinct {v} (instead {a} {b} {s} g w n k) d =
       distinct-in v b s (distinct-out v a s d .1) (λ m. ⊎-elim n k (columns-cases v (a ∷ s) (columns-in v a s m)))
   change-distinct {v} (remove {e} {s} g) d = distinct-out v e s d .1
 
   step-distinct : {o r : Order} → Step rs o r → Distinct (columns o) → Distinct (columns r)
   step-distinct (at v c) d = change-distinct c d
 
-module _ (rs : List Rule) (p : Order) (produced : Distinct (columns p)) where
+-- both of two equal columns are below the bound of the rules
+pub same-below : {n : ℕ} (rs : List Rule) → RulesBelow n rs → {a b : ℕ} → Same rs a b → a < n
+same-below rs small {a} {b} (inl m) = small (equal a b) m a (List·Memᴰ·head refl)
+same-below rs small {a} {b} (inr m) = small (equal b a) m a (List·Memᴰ·tail (List·Memᴰ·head refl))
+
+-- the rules name columns that have entries
+module _ (rs : List Rule) (small : RulesBelow descendingUnit rs) (p : Order) (produced : Distinct (columns p)) where
   -- no column stands twice in a derived ordering
   derived-distinct : {o : Order} → Derived rs p o → Distinct (columns o)
   derived-distinct (given {o} b) = distinct-left o (b .0) (rw (b .1) produced)
@@ -108,9 +106,9 @@ module _ (rs : List Rule) (p : Order) (produced : Distinct (columns p)) where
         (free (v ++ (e ∷ s)) (λ c m. columns-left v (e ∷ s) m) t (rw append-assoc (λ m. ⊎-elim other na (columns-out v e (s ++ t) m))))))
 
   -- an entry is free if it is so behind a column that is free
-  free-through : {e c : ℕ} {w : List ℕ} (v : Order) → Within w (columns v) → FreeBehind w c
+  free-through : {e c : ℕ} {w : List ℕ} (v : Order) → Within w (columns v) → c < descendingUnit → FreeBehind w c
       → ((u : Order) → Within (columns v) (columns u) → List·Memᴰ c (columns u) → Free u e) → Free v e
-  free-through {e} {c} v i free behind s n = go (says-member decides-number c (columns v)) (says-eqb c (column e)) (says-member decides-number c (columns s))
+  free-through {e} {c} v i low free behind s n = go (says-member decides-number c (columns v)) (says-eqb c (column e)) (says-member decides-number c (columns s))
     where
       Goal : Type 0
       Goal = Derived rs p (v ++ s) ↔ Derived rs p (v ++ (e ∷ s))
@@ -132,23 +130,23 @@ module _ (rs : List Rule) (p : Order) (produced : Distinct (columns p)) where
       go (fails f) (holds q) k = free e (sym q) v i s n
       go (fails f) (fails g) (holds k) = let r = Memᴰ·of-map column s k in moved (r .0) (r .2) g (around (r .1))
       go (fails f) (fails g) (fails k) =
-          free-lent v (entry c) e (λ u j. free (entry c) (column-entry c) u (λ x m. j x (i x m))) (lent (entry c) (column-entry c)) (λ h. g (sym (column-entry c) ∙ h)) s
-          (λ m. ⊎-elim f k (columns-cases v s (Memᴰ·cast (sym (column-entry c)) m))) n
+          let own = below-column c low in
+          free-lent v c e (λ u j. free c own u (λ x m. j x (i x m))) (lent c own) (λ h. g (sym own ∙ h)) s (λ m. ⊎-elim f k (columns-cases v s (Memᴰ·cast (sym own) m))) n
 
   -- and if it is so behind columns that are
-  free-through-all : {e : ℕ} {w : List ℕ} (l : List ℕ) → ((a : ℕ) → List·Memᴰ a l → FreeBehind w a) → (v : Order) → Within w (columns v)
+  free-through-all : {e : ℕ} {w : List ℕ} (l : List ℕ) → ((a : ℕ) → List·Memᴰ a l → a < descendingUnit) → ((a : ℕ) → List·Memᴰ a l → FreeBehind w a) → (v : Order) → Within w (columns v)
       → ((u : Order) → Within (columns v) (columns u) → Within l (columns u) → Free u e) → Free v e
-  free-through-all [] free v i behind = behind v (λ x m. m) (λ x m. absurd (List·Memᴰ·not-nil m))
-  free-through-all (a ∷ l) free v i behind =
-      free-through v i (free a (List·Memᴰ·head refl))
-      (λ u j k. free-through-all l (λ x m. free x (List·Memᴰ·tail m)) u (λ x m. j x (i x m)) (λ t y z. behind t (λ x m. y x (j x m)) (all-cons {P = λ x. List·Memᴰ x (columns t)} (y a k) z)))
+  free-through-all [] low free v i behind = behind v (λ x m. m) (λ x m. absurd (List·Memᴰ·not-nil m))
+  free-through-all (a ∷ l) low free v i behind =
+      free-through v i (low a (List·Memᴰ·head refl)) (free a (List·Memᴰ·head refl))
+      (λ u j k. free-through-all l (λ x m. low x (List·Memᴰ·tail m)) (λ x m. free x (List·Memᴰ·tail m)) u (λ x m. j x (i x m)) (λ t y z. behind t (λ x m. y x (j x m)) (all-cons {P = λ x. List·Memᴰ x (columns t)} (y a k) z)))
 
   -- a settled column is free
   settled-free : {w : List ℕ} {c : ℕ} → Settled rs w c → FreeBehind w c
   settled-free (among {c} m) e q v i = λ s n. absurd (n (columns-left v s (Memᴰ·cast q (i c m))))
-  settled-free (fixed {l} m f) e q v i =
-      free-through-all l (λ a k. settled-free (f a k)) v i (λ u j k. given-free u e (subst (Given rs (columns u)) (sym q) (by-fix m k)))
-  settled-free (equalled h k) e q v i = free-through v i (settled-free k) (λ u j m. given-free u e (subst (Given rs (columns u)) (sym q) (by-equal h m)))
+  settled-free (fixed {l} {r} m f) e q v i =
+      free-through-all l (λ a k. small (fix l r) m a (List·Memᴰ·tail k)) (λ a k. settled-free (f a k)) v i (λ u j k. given-free u e (subst (Given rs (columns u)) (sym q) (by-fix m k)))
+  settled-free (equalled h k) e q v i = free-through v i (same-below rs small h) (settled-free k) (λ u j m. given-free u e (subst (Given rs (columns u)) (sym q) (by-equal h m)))
 
   -- so an entry whose column is settled by what stands before it is put in where its column is nowhere, and taken out
   pub settled-in : (v : Order) (e : ℕ) (s : Order) → Settled rs (columns v) (column e) → ¬ List·Memᴰ (column e) (columns v) → ¬ List·Memᴰ (column e) (columns s)

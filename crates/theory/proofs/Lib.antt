@@ -8,7 +8,8 @@ pub mod PositionLaws
 pub mod RangeLaws
 pub mod RowLaws
 pub mod BitLaws
--- Derivation and rows: rules and choices of sets; what is derived is true of rows; what the closure test says; the three are one (`HeldLaws`).
+-- Derivation and rows: entries with a direction; rules and choices of sets; what is derived is true of rows; what the closure test says; the three are one (`HeldLaws`).
+pub mod EntryLaws
 pub mod RuleLaws
 pub mod ChoiceLaws
 pub mod ChoiceNumbers
@@ -47,3 +48,4 @@ pub mod FewestRows
 pub mod AnyOrder
 pub mod TwoRows
 pub mod AskedRows
+pub mod AscendingLaws

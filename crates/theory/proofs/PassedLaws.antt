@@ -12,7 +12,7 @@ use lib.Seq.{take-suc}
 use borrow.Author.Tests.{lt-ltb, le-ltb, ltb-false, leb-false}
 use Rattle.theory.specs.Tests.{pick, Says, holds, fails, Distinct, empty, also, every, repeats, upFrom}
 use Rattle.theory.specs.Limits.{maxLength, equalKind, bodyWidth}
-use Rattle.theory.specs.Orders.{sameOrder, fix, equal, columnsOf, Columns}
+use Rattle.theory.specs.Orders.{columns, sameOrder, fix, equal, columnsOf, Columns}
 use Rattle.theory.specs.Refusals.{passed, firstRefusal, firstOf}
 use Rattle.theory.specs.Query.{Bytes, byteAt, columnCount, setCount, orderCount, itemCount, headAt, bodyAt, orderAt, kindOf, setOf, ruleOf, usedBy, sizesRefusal, unusedRefusal, columnRefusal, repeatRefusal, bodyRefusal, orderRefusal, dependencyRefusal, itemRefusal, twinRefusal, queryRefusal}
 use Rattle.theory.proofs.Reflect.{says-eqb, says-ltb, says-every, says-true, distinct-none, decides-number, decides-order}
@@ -24,7 +24,7 @@ use Rattle.theory.proofs.QueryLaws.{SizesFit, sizes-fit}
 pub record OrderFormed (b : Bytes) (i : ℕ) : Type 0 where
   pub short : headAt b i ≤ maxLength
   pub long : length (orderAt b i) ≡ headAt b i
-  pub columns : Columns (columnCount b) (orderAt b i)
+  pub columns : Columns (columnCount b) (columns (orderAt b i))
 
 -- Item i is a dependency: a fix or an equal that belongs to a set of the query.
 pub record DependencyFormed (b : Bytes) (i : ℕ) : Type 0 where
@@ -39,14 +39,14 @@ pub record Passed (b : Bytes) : Type 0 where
   pub dependency : (i : ℕ) → orderCount b ≤ i → i < itemCount b → DependencyFormed b i
   pub distinct : Distinct (map (orderAt b) (upFrom 0 (orderCount b)))
 
-body-passed : (n used : ℕ) (body : Bytes) → bodyRefusal n used body ≡ passed → Columns n (take used body)
+body-passed : (n used : ℕ) (body : Bytes) (named : List ℕ) → bodyRefusal n used body named ≡ passed → Columns n named
 unfolding bodyRefusal
-body-passed n used body e =
-    let rest = or-passed (unusedRefusal used body) (firstRefusal (columnRefusal n used body) (repeatRefusal used body)) e .1 in
-    let s = or-passed (columnRefusal n used body) (repeatRefusal used body) rest in
+body-passed n used body named e =
+    let rest = or-passed (unusedRefusal used body) (firstRefusal (columnRefusal n named) (repeatRefusal named)) e .1 in
+    let s = or-passed (columnRefusal n named) (repeatRefusal named) rest in
     record {
-      below = says-true (says-every (λ c. says-ltb c n) (take used body)) (refused-else (every (λ c. ltb c n) (take used body)) (s .0) (omega arith) .0);
-      distinct = distinct-none decides-number (take used body) (refused-then (repeats eqb (take used body)) (s .1) (omega arith) .0);
+      below = says-true (says-every (λ c. says-ltb c n) named) (refused-else (every (λ c. ltb c n) named) (s .0) (omega arith) .0);
+      distinct = distinct-none decides-number named (refused-then (repeats eqb named) (s .1) (omega arith) .0);
     }
 
 -- the last of some columns put first
@@ -86,7 +86,7 @@ module _ (b : Bytes) (z : SizesFit b) (i : ℕ) where
   order-passed h e =
       let s = refused-then (ltb maxLength (headAt b i)) (rw (lt-ltb i (orderCount b) h) at e) (omega arith) in
       let short = ltb-false maxLength (headAt b i) (s .0) in
-      record { short = short; long = length-take (headAt b i) (bodyAt b i) ∙ omega (arith, body-length (omega arith)); columns = body-passed (columnCount b) (headAt b i) (bodyAt b i) (s .1) }
+      record { short = short; long = length-take (headAt b i) (bodyAt b i) ∙ omega (arith, body-length (omega arith)); columns = body-passed (columnCount b) (headAt b i) (bodyAt b i) (columns (orderAt b i)) (s .1) }
 
   dependency-passed : orderCount b ≤ i → i < itemCount b → itemRefusal b i ≡ passed → DependencyFormed b i
   unfolding itemRefusal dependencyRefusal
@@ -98,7 +98,7 @@ module _ (b : Bytes) (z : SizesFit b) (i : ℕ) where
       record {
         kind = small;
         set = leb-false (setCount b) (setOf (headAt b i)) (t .0);
-        columns = rule-columns (columnCount b) kind (bodyAt b i) (body-length l) small (body-passed (columnCount b) (usedBy kind) (bodyAt b i) (t .1));
+        columns = rule-columns (columnCount b) kind (bodyAt b i) (body-length l) small (body-passed (columnCount b) (usedBy kind) (bodyAt b i) (take (usedBy kind) (bodyAt b i)) (t .1));
       }
 
 -- the facts of a query that passed

@@ -3,7 +3,7 @@ use Prim.Native.Nat.{ℕ, _<_, _≤_}
 use native.Mathlib.Nat.{zero-add}
 use native.Mathlib.Omega.{arith}
 use mathlib.Core.Path.{_≡_, sym, _∙_, ap, subst}
-use mathlib.Core.List.{List, map, map-id, map-append, List·Memᴰ, Memᴰ·of-map}
+use mathlib.Core.List.{List, map, map-append, List·Memᴰ, Memᴰ·of-map}
 use lib.ListN.{length, getD}
 use Rattle.theory.specs.Tests.{upFrom}
 use Rattle.theory.specs.Limits.{maxLength}
@@ -28,7 +28,7 @@ produced-at b i d h = rw zero-add at (entry-at (orderAt b) 0 (producedCount b) i
 
 -- where the checks pass, the interesting orders are different, each of at most 4 different columns below N
 module _ (b : Bytes) (p : Passed b) where
-  pub order-columns : (o : Order) → List·Memᴰ o (interesting (readQuery b)) → (length o ≤ maxLength) × Columns (columnCount b) o
+  pub order-columns : (o : Order) → List·Memᴰ o (interesting (readQuery b)) → (length o ≤ maxLength) × Columns (columnCount b) (columns o)
   order-columns o m =
       let t = Memᴰ·of-map (orderAt b) (upFrom 0 (orderCount b)) (rw interesting-read at m) in
       let f = p .order (t .0) (omega (arith, member-upFrom 0 (orderCount b) (t .1))) in
@@ -51,8 +51,9 @@ pub query-formed : (b : Bytes) → queryRefusal b ≡ passed → WellFormed (rea
 query-formed b e =
     let p = query-passed b e in
     record {
-      orders = λ o m. subst (Columns (readQuery b .columns)) (sym (map-id o)) (columns-read b (order-columns b p o m .1));
+      orders = λ o m. columns-read b (order-columns b p o m .1);
       rules = λ r m c k.
           let t = Memᴰ·of-map (λ (d : Dependency). d .rule) (readQuery b .dependencies) m in
           columns-read b (dependency-columns b p (t .0) (t .1) .1) .below c (subst (λ x. List·Memᴰ c (columnsOf x)) (sym (t .2)) k);
+      room = rw (column-count b) (omega (arith, p .sized .few-columns));
     }

@@ -2,27 +2,33 @@
 use Prim.Native.Nat.{ℕ}
 use native.Mathlib.Nat.{lt-trans}
 use mathlib.Core.Path.{_≡_, sym, _∙_, subst}
+use mathlib.Core.Bool.{Bool, true, false}
 use mathlib.Core.Logic.{_⊎_, inl, inr, ⊎-elim}
 use mathlib.Core.List.{List, [], _∷_, _++_, append-nil, List·Memᴰ, List·Memᴰ·not-nil, List·Memᴰ·cases-cons}
 use lib.IntN.{ℤ}
-use lib.Signed.{_<ℤ_, <ℤ-irrefl}
+use lib.Signed.{<ℤ-irrefl}
 use lib.ListN.{getD}
-use Rattle.theory.specs.Orders.{Order, columns, Orderings, Rule, fix, equal, Same, Given, by-fix, by-equal, Change, shorten, insert, before, instead, remove, Step, at, Reach, given, step, Start, Derived}
-use Rattle.theory.specs.Rows.{Row, cell, Below, Stands, ObeysAll, HoldsOfRows}
+use Rattle.theory.specs.Orders.{Order, descends, columns, Orderings, Rule, fix, equal, Same, Given, by-fix, by-equal, Change, shorten, insert, before, instead, remove, Step, at, Reach, given, step, Start, Derived}
+use Rattle.theory.specs.Rows.{Row, cell, Sooner, Below, Stands, ObeysAll, HoldsOfRows}
 use Rattle.theory.proofs.ListLaws.{member-getD}
 
--- the first value is less, or the two are one and what follows holds: one column of a comparison
-abbrev Column : ℤ → ℤ → Type 0 → Type 0
-Column u v B = (u <ℤ v) ⊎ ((u ≡ v) × B)
+-- the first value comes sooner, or the two are one and what follows holds: one entry of a comparison
+abbrev Compared : Bool → ℤ → ℤ → Type 0 → Type 0
+Compared down u v B = Sooner down u v ⊎ ((u ≡ v) × B)
 
--- a column with one value says nothing
-pub column-skip : {u v : ℤ} {B : Type 0} → u ≡ v → Column u v B → B
-column-skip e (inl l) = absurd (<ℤ-irrefl (rw e at l))
-column-skip e (inr h) = h .1
+-- no value comes sooner than itself
+not-sooner : (down : Bool) {u v : ℤ} → u ≡ v → ¬ Sooner down u v
+not-sooner false e l = <ℤ-irrefl (rw e at l)
+not-sooner true e l = <ℤ-irrefl (rw e at l)
 
--- a column may stand for one with the same values
-column-swap : {u u′ v v′ : ℤ} {B : Type 0} → u ≡ u′ → v ≡ v′ → Column u′ v′ B → Column u v B
-column-swap d e h = rw (d, e) h
+-- an entry with one value says nothing
+pub entry-skip : (down : Bool) {u v : ℤ} {B : Type 0} → u ≡ v → Compared down u v B → B
+entry-skip down e (inl l) = absurd (not-sooner down e l)
+entry-skip down e (inr h) = h .1
+
+-- an entry may stand for one with the same direction and the same values
+entry-swap : {down down′ : Bool} {u u′ v v′ : ℤ} {B : Type 0} → down ≡ down′ → u ≡ u′ → v ≡ v′ → Compared down′ u′ v′ B → Compared down u v B
+entry-swap c d e h = rw (c, d, e) h
 
 -- the two rows have the same values in the columns
 abbrev Agree : Row → Row → List ℕ → Type 0
@@ -48,9 +54,9 @@ module _ (rows : List Row) (rs : List Rule) (obey : ObeysAll rs rows) where
   -- rows that compare below after a change did so before it
   below-change : (x y : Row) → List·Memᴰ x rows → List·Memᴰ y rows → {p s t : Order} → Change rs p s t → Agree x y (columns p) → Below x y t → Below x y s
   below-change x y mx my shorten agree h = absurd h
-  below-change x y mx my (insert g out out′) agree h = column-skip (given-agree x y mx my g agree) h
-  below-change x y mx my (before e out out′) agree h = ⊎-elim inl (λ k. k .1) (column-swap (same-cell e x mx) (same-cell e y my) h)
-  below-change x y mx my (instead e out out′) agree h = column-swap (same-cell e x mx) (same-cell e y my) h
+  below-change x y mx my (insert {e} g out out′) agree h = entry-skip (descends e) (given-agree x y mx my g agree) h
+  below-change x y mx my (before e d out out′) agree h = ⊎-elim inl (λ k. k .1) (entry-swap (sym d) (same-cell e x mx) (same-cell e y my) h)
+  below-change x y mx my (instead e d out out′) agree h = entry-swap (sym d) (same-cell e x mx) (same-cell e y my) h
   below-change x y mx my (remove g) agree h = inr (given-agree x y mx my g agree, h)
 
   -- a step keeps the rows standing

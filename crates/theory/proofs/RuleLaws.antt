@@ -59,8 +59,8 @@ given-more f (by-equal e m) = by-equal (⊎-map (f _) (f _) e) m
 change-more : {rs qs : List Rule} → Within rs qs → {p s t : Order} → Change rs p s t → Change qs p s t
 change-more f shorten = shorten
 change-more f (insert m g h) = insert (given-more f m) g h
-change-more f (before e g h) = before (⊎-map (f _) (f _) e) g h
-change-more f (instead e g h) = instead (⊎-map (f _) (f _) e) g h
+change-more f (before e d g h) = before (⊎-map (f _) (f _) e) d g h
+change-more f (instead e d g h) = instead (⊎-map (f _) (f _) e) d g h
 change-more f (remove m) = remove (given-more f m)
 
 step-more : {rs qs : List Rule} → Within rs qs → {o r : Order} → Step rs o r → Step qs o r

@@ -7,9 +7,9 @@ use mathlib.Core.Logic.{_⊎_, inl, inr, ⊎-elim}
 use mathlib.Core.List.{List, [], _∷_, _++_, map, flatten, List·Memᴰ, List·Memᴰ·head, List·Memᴰ·tail, List·Memᴰ·not-nil, List·Memᴰ·cases-cons, List·Memᴰ·eq-of-singleton, Memᴰ·append-left, Memᴰ·append-right}
 use lib.ListN.{length}
 use Rattle.theory.specs.Tests.{Says, those}
-use Rattle.theory.specs.Orders.{Rule, fix, equal}
-use Rattle.theory.specs.Settled.{Settled, among, fixed, equalled, ready, gives, settleWithin, settledColumns, settled}
-use Rattle.theory.proofs.Reflect.{says-true, true-says, says-as, says-or, says-every, says-member, decides-number}
+use Rattle.theory.specs.Orders.{descends, column, Rule, fix, equal}
+use Rattle.theory.specs.Settled.{Settled, among, fixed, equalled, ready, gives, settleWithin, settledColumns, settled, isEqual, alike}
+use Rattle.theory.proofs.Reflect.{says-true, true-says, says-as, says-and, says-or, says-every, says-member, decides-number, decides-bool}
 use Rattle.theory.proofs.ListLaws.{Within, member-flatten-map, flatten-map-member}
 use Rattle.theory.proofs.RowLaws.{all-cons, all-append}
 
@@ -147,3 +147,10 @@ says-settled rs w c =
     says-as (settle-sound (length rs) rs w (λ x m. m) (λ d m. among m) c)
     (closed-settled (settle-closed (length rs) rs w (omega arith)) (settle-keeps (length rs) rs w))
     (says-member decides-number c (settledColumns rs w))
+
+-- Two entries are alike: equals lead from the column of the one to that of the other, and the directions are the same.
+abbrev pub EntriesAlike : List Rule → ℕ → ℕ → Type 0
+EntriesAlike rs e x = Settled (those isEqual rs) (column e ∷ []) (column x) × (descends e ≡ descends x)
+
+pub says-alike : (rs : List Rule) (e x : ℕ) → Says (EntriesAlike rs e x) (alike rs e x)
+says-alike rs e x = says-and (says-settled (those isEqual rs) (column e ∷ []) (column x)) (decides-bool (descends e) (descends x))

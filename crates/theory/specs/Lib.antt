@@ -15,6 +15,7 @@ pub mod Table
 pub mod Scratch
 pub mod Build
 pub mod Lookups
+pub mod Ascending
 pub mod Listing
 pub mod Verification
 pub mod Counterexamples

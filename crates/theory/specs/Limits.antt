@@ -28,6 +28,10 @@ maxJointStates = maxStates * maxStates
 abbrev pub maxLength : ℕ
 maxLength = 4
 
+-- In an order 128 added to a column means descending.
+abbrev pub descendingUnit : ℕ
+descendingUnit = 128
+
 -- A query's bytes: five sizes; an item has a head and four bytes, five in all; a dependency's head is 16 × kind + set, and the last kind, 4, is the equal;
 -- an unused byte is 255.
 abbrev pub querySizes : ℕ

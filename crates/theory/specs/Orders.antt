@@ -1,19 +1,25 @@
--- Document 01, "Orders, dependencies, derivation", with document 02's Req 05: what an order and a dependency are, one step, the start; and what is derived after some sets,
--- as relations.
-use Prim.Native.Nat.{ℕ, _<_}
+-- Document 01, "Orders, dependencies, derivation", with document 02's Req 05 and 07: what an order and a dependency are, one step, the start; and what is derived after some
+-- sets, as relations.
+use Prim.Native.Nat.{ℕ, _-_, _<_, _≤_}
+use mathlib.Core.Path.{_≡_}
 use mathlib.Core.Bool.{Bool}
 use mathlib.Core.Logic.{_⊎_}
 use mathlib.Core.List.{List, [], _∷_, _++_, map, List·Memᴰ, IsPrefix}
-use lib.Dec.{eqb}
+use lib.Dec.{eqb, leb}
+use Rattle.theory.specs.Limits.{descendingUnit}
 use Rattle.theory.specs.Tests.{pick, Distinct, member, sameList}
 
 -- A column is a number. An order, and a derived ordering, is a list of entries, most significant first; the empty one is an unsorted scan.
 abbrev pub Order : Type 0
 Order = List ℕ
 
--- An entry is its column. Dependencies speak of columns, orders have entries.
-abbrev pub column : ℕ → ℕ
-column e = e
+-- Document 02, Req 07: an entry is a column with a direction. It descends where 128 is added to the column, and ascends otherwise. Dependencies speak of columns and have no
+-- direction.
+unfoldable pub descends : ℕ → Bool
+descends e = leb descendingUnit e
+
+unfoldable pub column : ℕ → ℕ
+column e = pick (descends e) (e - descendingUnit) e
 
 abbrev pub columns : Order → List ℕ
 columns = map column
@@ -67,10 +73,11 @@ pub record Columns (n : ℕ) (l : List ℕ) : Type 0 where
 abbrev pub RulesBelow : ℕ → List Rule → Type 0
 RulesBelow n rs = (r : Rule) → List·Memᴰ r rs → (c : ℕ) → List·Memᴰ c (columnsOf r) → c < n
 
--- A query is well formed: each interesting order has different columns, and no column is named that is not below N.
+-- A query is well formed: each interesting order has different columns, no column is named that is not below N, and each of the N columns has both directions.
 pub record WellFormed (q : Query) : Type 0 where
   pub orders : (o : Order) → List·Memᴰ o (interesting q) → Columns (q .columns) (columns o)
   pub rules : RulesBelow (q .columns) (map (λ (d : Dependency). d .rule) (q .dependencies))
+  pub room : q .columns ≤ descendingUnit
 
 -- An equal, either way round.
 abbrev pub Same : List Rule → ℕ → ℕ → Type 0
@@ -81,17 +88,18 @@ pub data Given (rs : List Rule) (w : List ℕ) : ℕ → Type 0 where
   by-fix : {l : List ℕ} {r : ℕ} → List·Memᴰ (fix l r) rs → ((c : ℕ) → List·Memᴰ c l → List·Memᴰ c w) → Given rs w r
   by-equal : {a b : ℕ} → Same rs a b → List·Memᴰ a w → Given rs w b
 
--- What one step under the rules does behind a beginning p: the entries s that follow it become t.
+-- What one step under the rules does behind a beginning p: the entries s that follow it become t. A column counts as present in both directions alike.
 pub data Change (rs : List Rule) (p : Order) : Order → Order → Type 0 where
   -- Prefix: the last entry is taken away.
   shorten : {x : ℕ} → Change rs p (x ∷ []) []
-  -- Insert, and an equal behind: the columns of p give a column that occurs nowhere, and it goes in directly behind p.
+  -- Insert, and an equal behind: the columns of p give a column that occurs nowhere, and it goes in directly behind p, in either direction.
   insert : {e : ℕ} {s : Order} → Given rs (columns p) (column e) → ¬ List·Memᴰ (column e) (columns p) → ¬ List·Memᴰ (column e) (columns s) → Change rs p s (e ∷ s)
-  -- Equal a, b, where b occurs nowhere: b goes in directly before a, ..
-  before : {a b : ℕ} {s : Order} → Same rs (column a) (column b) → ¬ List·Memᴰ (column b) (columns p) → ¬ List·Memᴰ (column b) (columns (a ∷ s)) → Change rs p (a ∷ s) (b ∷ a ∷ s)
-  -- .. or in place of a.
-  instead : {a b : ℕ} {s : Order} → Same rs (column a) (column b) → ¬ List·Memᴰ (column b) (columns p) → ¬ List·Memᴰ (column b) (columns (a ∷ s)) → Change rs p (a ∷ s) (b ∷ s)
-  -- Document 02, Req 05: the columns of p give the entry's column, a fix by its left columns or an equal column, and the entry is taken out.
+  -- Equal a, b, where b occurs nowhere: b goes in directly before a, with a's direction, ..
+  before : {a b : ℕ} {s : Order} → Same rs (column a) (column b) → descends b ≡ descends a → ¬ List·Memᴰ (column b) (columns p) → ¬ List·Memᴰ (column b) (columns (a ∷ s)) → Change rs p (a ∷ s) (b ∷ a ∷ s)
+  -- .. or in place of a, with its direction.
+  instead : {a b : ℕ} {s : Order} → Same rs (column a) (column b) → descends b ≡ descends a → ¬ List·Memᴰ (column b) (columns p) → ¬ List·Memᴰ (column b) (columns (a ∷ s)) → Change rs p (a ∷ s) (b ∷ s)
+  -- Document 02, Req 05: the columns of p give the entry's column, a fix by its left columns or an equal column, and the entry is taken out, whichever
+  -- its direction.
   remove : {e : ℕ} {s : Order} → Given rs (columns p) (column e) → Change rs p (e ∷ s) s
 
 -- One step from an ordering under the rules, at any place.

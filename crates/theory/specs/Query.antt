@@ -1,4 +1,4 @@
--- Document 01, "Bytes on disk and in memory": a query's bytes, what they say, and the refusals 1 to 6.
+-- Document 01, "Bytes on disk and in memory", with document 02's Req 07: a query's bytes, what they say, and the refusals 1 to 6.
 -- Every function is total: whatever bytes come, in whatever number, they have a reading and an outcome.
 use Prim.Native.Nat.{ℕ, suc, _+_, _*_, _/_, _%_}
 use mathlib.Core.Bool.{Bool, _||_}
@@ -6,7 +6,7 @@ use mathlib.Core.List.{List, map}
 use lib.Dec.{eqb, ltb, leb}
 use lib.ListN.{length, take, drop, getD}
 use Rattle.theory.specs.Tests.{pick, every, repeats, upFrom}
-use Rattle.theory.specs.Orders.{Order, sameOrder, Rule, fix, equal, Dependency, Query}
+use Rattle.theory.specs.Orders.{Order, columns, sameOrder, Rule, fix, equal, Dependency, Query}
 use Rattle.theory.specs.Limits.{maxColumns, maxProduced, maxTested, maxSets, maxDependencies, maxLength, equalKind, kindUnit, querySizes, bodyWidth, itemWidth, unusedByte}
 use Rattle.theory.specs.Refusals.{passed, length-refused, size-refused, item-refused, column-refused, repeat-refused, twin-refused, firstRefusal, firstOf}
 
@@ -50,7 +50,7 @@ headAt b i = byteAt b (querySizes + i)
 abbrev pub bodyAt : Bytes → ℕ → Bytes
 bodyAt b i = rowAt (querySizes + itemCount b) bodyWidth i b
 
--- An order's head is its length, and its columns come first in its four bytes.
+-- An order's head is its length, and its entries come first in its four bytes.
 abbrev pub orderAt : Bytes → ℕ → Order
 orderAt b i = take (headAt b i) (bodyAt b i)
 
@@ -96,34 +96,34 @@ sizesRefusal b =
     (pick (ltb maxDependencies (dependencyCount b)) size-refused
     (pick (eqb (length b) (querySizes + itemWidth * itemCount b)) passed length-refused))))))
 
--- Refusals 3, 4, 5 of an item's four bytes, of which `used` are columns: an unused byte not 255; a column not below N; a column twice.
+-- Refusals 3, 4, 5 of an item's four bytes, of which `used` name the columns `named`: an unused byte not 255; a column not below N; a column twice.
 abbrev pub unusedRefusal : ℕ → Bytes → ℕ
 unusedRefusal used body = pick (every (λ c. eqb c unusedByte) (drop used body)) passed item-refused
 
-abbrev pub columnRefusal : ℕ → ℕ → Bytes → ℕ
-columnRefusal n used body = pick (every (λ c. ltb c n) (take used body)) passed column-refused
+abbrev pub columnRefusal : ℕ → List ℕ → ℕ
+columnRefusal n named = pick (every (λ c. ltb c n) named) passed column-refused
 
-abbrev pub repeatRefusal : ℕ → Bytes → ℕ
-repeatRefusal used body = pick (repeats eqb (take used body)) repeat-refused passed
+abbrev pub repeatRefusal : List ℕ → ℕ
+repeatRefusal named = pick (repeats eqb named) repeat-refused passed
 
-unfoldable pub bodyRefusal : ℕ → ℕ → Bytes → ℕ
-bodyRefusal n used body = firstRefusal (unusedRefusal used body) (firstRefusal (columnRefusal n used body) (repeatRefusal used body))
+unfoldable pub bodyRefusal : ℕ → ℕ → Bytes → List ℕ → ℕ
+bodyRefusal n used body named = firstRefusal (unusedRefusal used body) (firstRefusal (columnRefusal n named) (repeatRefusal named))
 
--- An order's length is at most 4.
+-- An order's length is at most 4. It names the columns of its entries, so a column in both directions is there twice.
 unfoldable pub orderRefusal : ℕ → ℕ → Bytes → ℕ
-orderRefusal n head body = pick (ltb maxLength head) item-refused (bodyRefusal n head body)
+orderRefusal n head body = pick (ltb maxLength head) item-refused (bodyRefusal n head body (columns (take head body)))
 
--- A dependency's kind is at most 4, and its set is below S.
+-- A dependency's kind is at most 4, and its set is below S. Its bytes are the columns that it names: 128 or more is not below N.
 unfoldable pub dependencyRefusal : ℕ → ℕ → ℕ → Bytes → ℕ
 dependencyRefusal n s head body =
-    pick (ltb equalKind (kindOf head)) item-refused (pick (leb s (setOf head)) item-refused (bodyRefusal n (usedBy (kindOf head)) body))
+    pick (ltb equalKind (kindOf head)) item-refused (pick (leb s (setOf head)) item-refused (bodyRefusal n (usedBy (kindOf head)) body (take (usedBy (kindOf head)) body)))
 
 unfoldable pub itemRefusal : Bytes → ℕ → ℕ
 itemRefusal b i =
     pick (ltb i (orderCount b)) (orderRefusal (columnCount b) (headAt b i) (bodyAt b i))
     (dependencyRefusal (columnCount b) (setCount b) (headAt b i) (bodyAt b i))
 
--- Refusal 6: two equal interesting orders.
+-- Refusal 6: two equal interesting orders, directions included.
 unfoldable pub twinRefusal : Bytes → ℕ
 twinRefusal b = pick (repeats sameOrder (map (orderAt b) (upFrom 0 (orderCount b)))) twin-refused passed
 

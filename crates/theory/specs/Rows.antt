@@ -1,12 +1,13 @@
--- Document 01, "Orders, dependencies, derivation", on rows: when rows stand in an order and when they obey a dependency.
+-- Document 01, "Orders, dependencies, derivation", on rows, with document 02's Req 07: when rows stand in an order and when they obey a dependency.
 use Prim.Native.Nat.{ℕ, _<_}
 use mathlib.Core.Path.{_≡_}
+use mathlib.Core.Bool.{Bool, true, false}
 use mathlib.Core.Logic.{_⊎_}
 use mathlib.Core.List.{List, [], _∷_, List·Memᴰ}
 use lib.IntN.{ℤ, pos}
 use lib.Signed.{_<ℤ_}
 use lib.ListN.{length, getD}
-use Rattle.theory.specs.Orders.{Order, column, Rule, fix, equal}
+use Rattle.theory.specs.Orders.{Order, descends, column, Rule, fix, equal}
 
 -- A row is a list of whole numbers, one for each column. They may be negative: `pos n` is n, and the kit's `negsuc n` is -(n + 1).
 abbrev pub Row : Type 0
@@ -16,10 +17,15 @@ Row = List ℤ
 abbrev pub cell : Row → ℕ → ℤ
 cell row c = getD row c (pos 0)
 
--- The first row compares below the second, the columns of the order taken in turn and ascending.
+-- The first value comes sooner than the second: the smaller one does, and where the entry descends, the larger one.
+abbrev pub Sooner : Bool → ℤ → ℤ → Type 0
+Sooner false u v = u <ℤ v
+Sooner true u v = v <ℤ u
+
+-- The first row compares below the second, the entries of the order taken in turn, each by its direction.
 abbrev pub Below : Row → Row → Order → Type 0
 Below x y [] = ⊥
-Below x y (e ∷ o) = (cell x (column e) <ℤ cell y (column e)) ⊎ ((cell x (column e) ≡ cell y (column e)) × Below x y o)
+Below x y (e ∷ o) = Sooner (descends e) (cell x (column e)) (cell y (column e)) ⊎ ((cell x (column e) ≡ cell y (column e)) × Below x y o)
 
 -- Rows *stand in* an order when no row compares below an earlier one.
 abbrev pub Stands : List Row → Order → Type 0

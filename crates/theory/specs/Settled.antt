@@ -1,11 +1,11 @@
--- Document 02, Req 05: the columns that columns settle, and the closure test, which says whether an order is held.
+-- Document 02, Req 05 and 07: the columns that columns settle, and the closure test, which says whether an order is held.
 use Prim.Native.Nat.{ℕ, zero, suc}
-use mathlib.Core.Bool.{Bool, true, false, not, _||_}
+use mathlib.Core.Bool.{Bool, true, false, not, _&&_, _||_, Bool·beq}
 use mathlib.Core.List.{List, [], _∷_, _++_, map, List·Memᴰ, flatten}
 use lib.Dec.{eqb}
 use lib.ListN.{length}
 use Rattle.theory.specs.Tests.{Says, every, member, those}
-use Rattle.theory.specs.Orders.{Order, column, Rule, fix, equal, Same, Derived}
+use Rattle.theory.specs.Orders.{Order, descends, column, Rule, fix, equal, Same, Derived}
 use Rattle.theory.specs.Rows.{HoldsOfRows, Broken}
 
 -- The columns that the columns w *settle* under the rules: rows alike in w are alike in them. They are w itself, the right column of a fix whose left columns are all
@@ -44,9 +44,13 @@ abbrev pub isEqual : Rule → Bool
 isEqual (fix l r) = false
 isEqual (equal a b) = true
 
--- Two columns are alike where equals lead from the one to the other: each row has one value in both.
+-- Two columns are of one class where equals lead from the one to the other: each row has one value in both.
+abbrev pub oneClass : List Rule → ℕ → ℕ → Bool
+oneClass rs c x = settled (those isEqual rs) (c ∷ []) x
+
+-- Two entries are alike where their columns are of one class and they have the same direction: rows compare by the one as by the other.
 abbrev pub alike : List Rule → ℕ → ℕ → Bool
-alike rs c x = settled (those isEqual rs) (c ∷ []) x
+alike rs e x = oneClass rs (column e) (column x) && Bool·beq (descends e) (descends x)
 
 -- An ordering from its first entry on whose column is not among the settled ones.
 abbrev pub fromUnsettled : List ℕ → Order → Order
@@ -59,7 +63,7 @@ abbrev pub entryHeld : List Rule → List ℕ → Order → ℕ → (Order → B
 entryHeld rs s r e goOn =
     elim (member eqb (column e) s) [
       | true ↦ goOn r
-      | false ↦ elim (fromUnsettled s r) [ [] ↦ false | x ∷ rest ↦ elim (alike rs (column e) (column x)) [ true ↦ goOn rest | false ↦ false ] ]
+      | false ↦ elim (fromUnsettled s r) [ [] ↦ false | x ∷ rest ↦ elim (alike rs e x) [ true ↦ goOn rest | false ↦ false ] ]
     ]
 
 -- The entries o of the order looked for are held behind entries whose columns are w, where r is left of the produced order.

@@ -8,7 +8,7 @@ use mathlib.Core.List.{List, [], List·Memᴰ, flatten}
 use lib.ListN.{length, getD}
 use Rattle.theory.specs.Limits.{scratchLength}
 use Rattle.theory.specs.Tests.{Says, every}
-use Rattle.theory.specs.Orders.{Query, interesting, rulesOf, After}
+use Rattle.theory.specs.Orders.{descends, column, Query, interesting, rulesOf, After}
 use Rattle.theory.specs.Machine.{numberedWithin, agree}
 use Rattle.theory.specs.Settled.{settledColumns, isHeld}
 use Rattle.theory.specs.Construction.{sizesOfQuery, answersOf}
@@ -27,12 +27,12 @@ use Rattle.theory.proofs.ConstructionLaws.{query-exactly}
 
 -- the computed test of all trials
 all-pass : every passes trials ≡ true
-unfolding flatten settledColumns isHeld numberedWithin readQuery sizesRefusal bodyRefusal orderRefusal dependencyRefusal itemRefusal twinRefusal queryRefusal tableOf writeTable agree walkedTable construct outcome comesOut
+unfolding descends column flatten settledColumns isHeld numberedWithin readQuery sizesRefusal bodyRefusal orderRefusal dependencyRefusal itemRefusal twinRefusal queryRefusal tableOf writeTable agree walkedTable construct outcome comesOut
 all-pass = refl
 
 -- .. and of the suppliers' tables
 all-supplied : every passes supplied ≡ true
-unfolding flatten settledColumns isHeld numberedWithin readQuery sizesRefusal bodyRefusal orderRefusal dependencyRefusal itemRefusal twinRefusal queryRefusal tableOf walkedTable construct formRefusal startsRefusal successorsRefusal heldRefusal tableRefusal agree mismatchRefusal answerRefusal suppliedRefusal verifyRefusal comesOut
+unfolding descends column flatten settledColumns isHeld numberedWithin readQuery sizesRefusal bodyRefusal orderRefusal dependencyRefusal itemRefusal twinRefusal queryRefusal tableOf walkedTable construct formRefusal startsRefusal successorsRefusal heldRefusal tableRefusal agree mismatchRefusal answerRefusal suppliedRefusal verifyRefusal comesOut
 all-supplied = refl
 
 same-outcome : (r o : Outcome) → sameOutcome r o ≡ true → r ≡ o

@@ -179,8 +179,56 @@ time-axis-code = 3 ∷ 1 ∷ 1 ∷ 1 ∷ 1 ∷ 3 ∷ 2 ∷ 16 ∷ 0 ∷ 1 ∷ 2 
 abbrev pub seven-constants : Bytes
 seven-constants = 7 ∷ 1 ∷ 3 ∷ 1 ∷ 7 ∷ 0 ∷ 3 ∷ 3 ∷ 1 ∷ 0 ∷ 0 ∷ 0 ∷ 0 ∷ 0 ∷ 0 ∷ 0 ∷ 255 ∷ 255 ∷ 255 ∷ 255 ∷ 0 ∷ 1 ∷ 2 ∷ 255 ∷ 3 ∷ 4 ∷ 5 ∷ 255 ∷ 6 ∷ 255 ∷ 255 ∷ 255 ∷ 0 ∷ 255 ∷ 255 ∷ 255 ∷ 1 ∷ 255 ∷ 255 ∷ 255 ∷ 2 ∷ 255 ∷ 255 ∷ 255 ∷ 3 ∷ 255 ∷ 255 ∷ 255 ∷ 4 ∷ 255 ∷ 255 ∷ 255 ∷ 5 ∷ 255 ∷ 255 ∷ 255 ∷ 6 ∷ 255 ∷ 255 ∷ 255 ∷ []
 
+-- Document 02, Req 07. Newest first: produced (time desc,code), tested (time desc), (time,code).
+abbrev pub newest-first : Bytes
+newest-first = 2 ∷ 1 ∷ 2 ∷ 0 ∷ 0 ∷ 2 ∷ 1 ∷ 2 ∷ 128 ∷ 1 ∷ 255 ∷ 255 ∷ 128 ∷ 255 ∷ 255 ∷ 255 ∷ 0 ∷ 1 ∷ 255 ∷ 255 ∷ []
+
+-- Produced (a desc), tested (a).
+abbrev pub descending-alone : Bytes
+descending-alone = 1 ∷ 1 ∷ 1 ∷ 0 ∷ 0 ∷ 1 ∷ 1 ∷ 128 ∷ 255 ∷ 255 ∷ 255 ∷ 0 ∷ 255 ∷ 255 ∷ 255 ∷ []
+
+-- Produced (), (a desc), tested (k), (k desc), (k desc,a desc), (k desc,a), set {constant k}; a, k are 0, 1.
+abbrev pub either-constant : Bytes
+either-constant = 2 ∷ 2 ∷ 4 ∷ 1 ∷ 1 ∷ 0 ∷ 1 ∷ 1 ∷ 1 ∷ 2 ∷ 2 ∷ 0 ∷ 255 ∷ 255 ∷ 255 ∷ 255 ∷ 128 ∷ 255 ∷ 255 ∷ 255 ∷ 1 ∷ 255 ∷ 255 ∷ 255 ∷ 129 ∷ 255 ∷ 255 ∷ 255 ∷ 129 ∷ 128 ∷ 255 ∷ 255 ∷ 129 ∷ 0 ∷ 255 ∷ 255 ∷ 1 ∷ 255 ∷ 255 ∷ 255 ∷ []
+
+-- Produced (a desc), tested (b desc), (b), (a desc,b), (a desc,b desc), (b desc,a), (b,a desc), set {a = b}.
+abbrev pub equal-direction : Bytes
+equal-direction = 2 ∷ 1 ∷ 6 ∷ 1 ∷ 1 ∷ 1 ∷ 1 ∷ 1 ∷ 2 ∷ 2 ∷ 2 ∷ 2 ∷ 64 ∷ 128 ∷ 255 ∷ 255 ∷ 255 ∷ 129 ∷ 255 ∷ 255 ∷ 255 ∷ 1 ∷ 255 ∷ 255 ∷ 255 ∷ 128 ∷ 1 ∷ 255 ∷ 255 ∷ 128 ∷ 129 ∷ 255 ∷ 255 ∷ 129 ∷ 0 ∷ 255 ∷ 255 ∷ 1 ∷ 128 ∷ 255 ∷ 255 ∷ 0 ∷ 1 ∷ 255 ∷ 255 ∷ []
+
+-- Produced (a desc,c), tested (a desc,b,c), (a desc,b desc,c), (a,b,c), (a desc,b,c desc), set {a → b}.
+abbrev pub either-inserted : Bytes
+either-inserted = 3 ∷ 1 ∷ 4 ∷ 1 ∷ 1 ∷ 2 ∷ 3 ∷ 3 ∷ 3 ∷ 3 ∷ 16 ∷ 128 ∷ 2 ∷ 255 ∷ 255 ∷ 128 ∷ 1 ∷ 2 ∷ 255 ∷ 128 ∷ 129 ∷ 2 ∷ 255 ∷ 0 ∷ 1 ∷ 2 ∷ 255 ∷ 128 ∷ 1 ∷ 130 ∷ 255 ∷ 0 ∷ 1 ∷ 255 ∷ 255 ∷ []
+
+-- One produced order ascending and one descending: produced (a), (a desc), tested (b), (b desc), set {a = b}.
+abbrev pub both-directions : Bytes
+both-directions = 2 ∷ 2 ∷ 2 ∷ 1 ∷ 1 ∷ 1 ∷ 1 ∷ 1 ∷ 1 ∷ 64 ∷ 0 ∷ 255 ∷ 255 ∷ 255 ∷ 128 ∷ 255 ∷ 255 ∷ 255 ∷ 1 ∷ 255 ∷ 255 ∷ 255 ∷ 129 ∷ 255 ∷ 255 ∷ 255 ∷ 0 ∷ 1 ∷ 255 ∷ 255 ∷ []
+
+-- Produced (time desc,axis desc,code), tested (time desc,code), (time desc,axis,code), (time,code), set {time → axis}.
+abbrev pub descending-removed : Bytes
+descending-removed = 3 ∷ 1 ∷ 3 ∷ 1 ∷ 1 ∷ 3 ∷ 2 ∷ 3 ∷ 2 ∷ 16 ∷ 128 ∷ 129 ∷ 2 ∷ 255 ∷ 128 ∷ 2 ∷ 255 ∷ 255 ∷ 128 ∷ 1 ∷ 2 ∷ 255 ∷ 0 ∷ 2 ∷ 255 ∷ 255 ∷ 0 ∷ 1 ∷ 255 ∷ 255 ∷ []
+
+-- Order (a,a desc).
+abbrev pub column-both-ways : Bytes
+column-both-ways = 2 ∷ 1 ∷ 0 ∷ 0 ∷ 0 ∷ 2 ∷ 0 ∷ 128 ∷ 255 ∷ 255 ∷ []
+
+-- Column N, descending.
+abbrev pub descending-past-the-end : Bytes
+descending-past-the-end = 2 ∷ 1 ∷ 0 ∷ 0 ∷ 0 ∷ 1 ∷ 130 ∷ 255 ∷ 255 ∷ 255 ∷ []
+
+-- Produced (a), set {a → b} with 128 added to a.
+abbrev pub descending-dependency : Bytes
+descending-dependency = 2 ∷ 1 ∷ 0 ∷ 1 ∷ 1 ∷ 1 ∷ 16 ∷ 0 ∷ 255 ∷ 255 ∷ 255 ∷ 128 ∷ 1 ∷ 255 ∷ 255 ∷ []
+
+-- Produced (a desc), tested (a desc).
+abbrev pub descending-twins : Bytes
+descending-twins = 1 ∷ 1 ∷ 1 ∷ 0 ∷ 0 ∷ 1 ∷ 1 ∷ 128 ∷ 255 ∷ 255 ∷ 255 ∷ 128 ∷ 255 ∷ 255 ∷ 255 ∷ []
+
+-- Produced (time desc,code), tested (time,code), (code desc), set {constant time}.
+abbrev pub direction-matters : Bytes
+direction-matters = 2 ∷ 1 ∷ 2 ∷ 1 ∷ 1 ∷ 2 ∷ 2 ∷ 1 ∷ 0 ∷ 128 ∷ 1 ∷ 255 ∷ 255 ∷ 0 ∷ 1 ∷ 255 ∷ 255 ∷ 129 ∷ 255 ∷ 255 ∷ 255 ∷ 0 ∷ 255 ∷ 255 ∷ 255 ∷ []
+
 -- The starred trials, in document 01's order, with the tables of document 02; behind them the running query, which has as many rows as its paper has states, three, and the
--- trials of document 02's Req 05.
+-- trials of document 02's Req 05 and 07.
 abbrev pub trials : List Trial
 trials =
     record { query = example; expected = table (4 ∷ 2 ∷ 2 ∷ 2 ∷ 0 ∷ 1 ∷ 2 ∷ 0 ∷ 1 ∷ 3 ∷ 2 ∷ 2 ∷ 3 ∷ 3 ∷ 1 ∷ 0 ∷ 2 ∷ 0 ∷ 5 ∷ 0 ∷ 10 ∷ 0 ∷ []) } ∷
@@ -209,11 +257,37 @@ trials =
     record { query = time-axis-code; expected = after 0 [] 1 false } ∷
     record { query = time-axis-code; expected = after 0 (0 ∷ []) 1 true } ∷
     record { query = seven-constants; expected = table (2 ∷ 1 ∷ 3 ∷ 1 ∷ 0 ∷ 1 ∷ 1 ∷ 1 ∷ 0 ∷ 15 ∷ 0 ∷ []) } ∷
+    record { query = newest-first; expected = after 0 [] 0 true } ∷
+    record { query = newest-first; expected = after 0 [] 1 true } ∷
+    record { query = newest-first; expected = after 0 [] 2 false } ∷
+    record { query = descending-alone; expected = after 0 [] 1 false } ∷
+    record { query = either-constant; expected = after 0 [] 3 false } ∷
+    record { query = either-constant; expected = after 0 (0 ∷ []) 2 true } ∷
+    record { query = either-constant; expected = after 0 (0 ∷ []) 3 true } ∷
+    record { query = either-constant; expected = after 1 (0 ∷ []) 4 true } ∷
+    record { query = either-constant; expected = after 1 (0 ∷ []) 5 false } ∷
+    record { query = equal-direction; expected = after 0 (0 ∷ []) 1 true } ∷
+    record { query = equal-direction; expected = after 0 (0 ∷ []) 2 false } ∷
+    record { query = equal-direction; expected = after 0 (0 ∷ []) 3 true } ∷
+    record { query = equal-direction; expected = after 0 (0 ∷ []) 5 true } ∷
+    record { query = equal-direction; expected = after 0 (0 ∷ []) 6 false } ∷
+    record { query = either-inserted; expected = after 0 (0 ∷ []) 1 true } ∷
+    record { query = either-inserted; expected = after 0 (0 ∷ []) 2 true } ∷
+    record { query = either-inserted; expected = after 0 (0 ∷ []) 3 false } ∷
+    record { query = either-inserted; expected = after 0 (0 ∷ []) 4 false } ∷
+    record { query = both-directions; expected = table (4 ∷ 2 ∷ 2 ∷ 1 ∷ 0 ∷ 1 ∷ 2 ∷ 3 ∷ 2 ∷ 3 ∷ 1 ∷ 0 ∷ 2 ∷ 0 ∷ 5 ∷ 0 ∷ 10 ∷ 0 ∷ []) } ∷
+    record { query = descending-removed; expected = after 0 (0 ∷ []) 1 true } ∷
+    record { query = descending-removed; expected = after 0 (0 ∷ []) 2 true } ∷
+    record { query = descending-removed; expected = after 0 (0 ∷ []) 3 false } ∷
+    record { query = column-both-ways; expected = refusal 5 } ∷
+    record { query = descending-past-the-end; expected = refusal 4 } ∷
+    record { query = descending-dependency; expected = refusal 4 } ∷
+    record { query = descending-twins; expected = refusal 6 } ∷
     []
 
--- Document 02, Req 01: suppliers' tables on trial. Accepted: our own, one with a row for each pair of a produced order and sets in force, one with other state numbers, one with two rows
+-- Document 02, Req 01: suppliers' tables on trial. Accepted: our own, with directions too, one with a row for each pair of a produced order and sets in force, one with other state numbers, one with two rows
 -- that behave alike twice over, one with a row that no start reaches. Refused: one with another number of tested orders; one that claims (b) from (a) by a pair of fixes; one made with the prefix test; one that is wrong only
--- after three sets; one made without the step that takes a settled column out.
+-- after three sets; one made without the step that takes a settled column out; one that ignores direction.
 abbrev pub supplied : List Trial
 supplied =
     record { query = example; expected = verified (4 ∷ 2 ∷ 2 ∷ 2 ∷ 0 ∷ 1 ∷ 2 ∷ 0 ∷ 1 ∷ 3 ∷ 2 ∷ 2 ∷ 3 ∷ 3 ∷ 1 ∷ 0 ∷ 2 ∷ 0 ∷ 5 ∷ 0 ∷ 10 ∷ 0 ∷ []) 0 } ∷
@@ -226,4 +300,6 @@ supplied =
     record { query = through-an-equal; expected = verified (1 ∷ 1 ∷ 1 ∷ 2 ∷ 0 ∷ 0 ∷ 0 ∷ 1 ∷ 0 ∷ []) 13 } ∷
     record { query = three-in-force; expected = verified (4 ∷ 1 ∷ 1 ∷ 3 ∷ 0 ∷ 0 ∷ 0 ∷ 1 ∷ 1 ∷ 2 ∷ 1 ∷ 3 ∷ 2 ∷ 2 ∷ 3 ∷ 3 ∷ 3 ∷ 1 ∷ 0 ∷ 1 ∷ 0 ∷ 1 ∷ 0 ∷ 3 ∷ 0 ∷ []) 13 } ∷
     record { query = time-axis-code; expected = verified (1 ∷ 1 ∷ 1 ∷ 1 ∷ 0 ∷ 0 ∷ 1 ∷ 0 ∷ []) 13 } ∷
+    record { query = both-directions; expected = verified (4 ∷ 2 ∷ 2 ∷ 1 ∷ 0 ∷ 1 ∷ 2 ∷ 3 ∷ 2 ∷ 3 ∷ 1 ∷ 0 ∷ 2 ∷ 0 ∷ 5 ∷ 0 ∷ 10 ∷ 0 ∷ []) 0 } ∷
+    record { query = direction-matters; expected = verified (2 ∷ 1 ∷ 2 ∷ 1 ∷ 0 ∷ 1 ∷ 1 ∷ 3 ∷ 0 ∷ 7 ∷ 0 ∷ []) 13 } ∷
     []

@@ -18,12 +18,12 @@ cast-k c = search needs
 front-requires : tie.Need-front-requires
 front-requires c κs = search needs
 
-column-requires : tie.Need-column-requires
-column-requires c κs = search needs
+entry-requires : tie.Need-entry-requires
+entry-requires c κs = search needs
 
 add-arrow-requires : tie.Need-add-arrow-requires
 add-arrow-requires c κs = let s = c .before .before .before .before .before .before .before .before .before in
-    (rw (c .before .before .column .ensures, c .before .before .before .front .ensures .order) (subst (λ (r : Rule). Narrow (columnsOf (ruleIs r))) (c .before .before .before .before .before .rule .given .1) (s .pre .0)), omega (arith, s .pre .1), omega (arith, s .pre .2))
+    (rw (c .before .before .entry .ensures, c .before .before .before .front .ensures .order) (subst (λ (r : Rule). Narrow (columnsOf (ruleIs r))) (c .before .before .before .before .before .rule .given .1) (s .pre .0)), omega (arith, s .pre .1), omega (arith, s .pre .2))
 
 enum-known-rule-2 : tie.Need-enum-known-rule-2
 enum-known-rule-2 c = search needs
@@ -39,7 +39,7 @@ same-length-2 : tie.Need-same-length-2
 same-length-2 c = search needs
 
 returns : tie.Need-returns
-returns c = rw (c .before .before .before .before .before .before .before .before .before .before .rule .given .1) (rw (c .before .before .before .before .before .before .before .column .ensures, c .before .before .before .before .before .before .before .before .front .ensures .order) at (c .before .before .before .before .add-arrow .ensures))
+returns c = rw (c .before .before .before .before .before .before .before .before .before .before .rule .given .1) (rw (c .before .before .before .before .before .before .before .entry .ensures, c .before .before .before .before .before .before .before .before .front .ensures .order) at (c .before .before .before .before .add-arrow .ensures))
 
 same-length-3 : tie.Need-same-length-3
 same-length-3 c = search needs
@@ -57,7 +57,7 @@ add-rule-spec =
     enum-known-rule
     cast-k
     front-requires
-    column-requires
+    entry-requires
     add-arrow-requires
     enum-known-rule-2
     add-equal-requires

@@ -24,12 +24,12 @@ length-requires c κs = search needs
 loop-holds : tie.Need-loop-holds Inv-loop μ-loop
 loop-holds c = mask-none
 
-column-requires : tie.Need-column-requires Inv-loop μ-loop
-column-requires c κs = search needs
+entry-requires : tie.Need-entry-requires Inv-loop μ-loop
+entry-requires c κs = search needs
 
 bit-requires : tie.Need-bit-requires Inv-loop μ-loop
 bit-requires c κs = let s = c .before .before .before .before in
-    rw (c .column .ensures) (narrow-at (orderOf (s .args .o)) (c .before .before .loop .i) (s .pre) (omega arith))
+    rw (c .entry .ensures) (narrow-at (orderOf (s .args .o)) (c .before .before .loop .i) (s .pre) (omega arith))
 
 add-i : tie.Need-add-i Inv-loop μ-loop
 add-i c = search needs
@@ -39,7 +39,7 @@ loop-less c = search needs
 
 loop-again : tie.Need-loop-again Inv-loop μ-loop
 loop-again c = let a = c .before .before .before .before .before .args in let at = c .before .before .before .loop in
-    subst (MaskOf (take (at .i + 1) (orderOf (a .o)))) (ap (bitOr (at .all)) (sym (c .bit .ensures ∙ ap (λ k. 2 ^ k) (c .before .column .ensures))))
+    subst (MaskOf (take (at .i + 1) (orderOf (a .o)))) (ap (bitOr (at .all)) (sym (c .bit .ensures ∙ ap (λ k. 2 ^ k) (c .before .entry .ensures))))
     (mask-next (orderOf (a .o)) (at .i) (at .all) (omega arith) (at .inv))
 
 returns : tie.Need-returns Inv-loop μ-loop
@@ -54,7 +54,7 @@ mask-spec =
     μ-loop
     length-requires
     loop-holds
-    column-requires
+    entry-requires
     bit-requires
     add-i
     loop-less

@@ -6,6 +6,7 @@ use denote.Ref.{now}
 use Rattle.theory.specs.Query.{orderAt}
 use Rattle.theory.proofs.QueryLaws.{query-sizes, column-count, produced-count, order-count}
 use Rattle.rules_in_force.specs.Rules.{rulesAt}
+use Rattle.settled.specs.declared.Tested.the-variants as tested
 use Rattle.settled.specs.Ends.{Ends}
 use Rattle.counterexample.proofs.ShowLaws.{held-shows, stop-shows}
 use Rattle.counterexample.proofs.show.Statement.{statement}
@@ -55,11 +56,12 @@ same-length : tie.Need-same-length
 same-length c = search needs
 
 returns-2 : tie.Need-returns-2
-returns-2 c = let w = c .before .before in let e = stopped (w .before) in let t = ended e in let s = entry (t .before) in let a = s .args in let q = now (a .query) in (
-  stop-shows q (a .produced .0) (a .sets .0) (a .order .0) (s .pre) _ _ (ends t _ (e .settled .given .1))
-      _ (t .before .columns .ensures ∙ sym (column-count q)) (w .write .ensures),
-  tt,
-)
+returns-2 c = let w = c .before .before in let e = stopped (w .before) in let t = ended e in let s = entry (t .before) in let a = s .args in let q = now (a .query) in
+    let masks = e .settled .given .0 in (
+      stop-shows q (a .produced .0) (a .sets .0) (a .order .0) (s .pre) (masks .0) (masks .1 .0) (masks .1 .1 .0) (ends t (tested.Stopped (masks .0) (masks .1 .0) (masks .1 .1 .0)) (e .settled .given .1))
+          _ (t .before .columns .ensures ∙ sym (column-count q)) (w .write .ensures),
+      tt,
+    )
 
 pub show-spec : {M : Type 1} → statement M
 show-spec =

@@ -51,8 +51,8 @@ test-requires c κs = let r = read c in let s = entry (prepared r) in let q = no
   omega (arith, k .1, k .2),
   omega (arith, k .1, k .3),
   k .4,
-  order-narrow q (s .pre .0) _ (r .before .order .ensures .order) (omega (arith, s .pre .1, s .pre .2)),
-  order-narrow q (s .pre .0) _ (r .order2 .ensures .order) (omega (arith, s .pre .1, s .pre .2)),
+  order-narrow q (s .pre .0) _ _ (r .before .order .ensures .order) (omega (arith, s .pre .1, s .pre .2)),
+  order-narrow q (s .pre .0) _ _ (r .order2 .ensures .order) (omega (arith, s .pre .1, s .pre .2)),
 )
 
 returns : tie.Need-returns

@@ -24,8 +24,8 @@ add-result c = search needs
 named-requires : tie.Need-named-requires
 named-requires c κs = search needs
 
-columns-requires : tie.Need-columns-requires
-columns-requires c κs = search needs
+bytes-requires : tie.Need-bytes-requires
+bytes-requires c κs = search needs
 
 mul-result-2 : tie.Need-mul-result-2
 mul-result-2 c = search needs
@@ -47,7 +47,7 @@ dependency-value-spec =
     mul-result
     add-result
     named-requires
-    columns-requires
+    bytes-requires
     mul-result-2
     add-result-2
     returns)

@@ -12,8 +12,8 @@ order-requires c κs = search needs
 length-requires : tie.Need-length-requires
 length-requires c κs = search needs
 
-columns-requires : tie.Need-columns-requires
-columns-requires c κs = search needs
+bytes-requires : tie.Need-bytes-requires
+bytes-requires c κs = search needs
 
 mul-result : tie.Need-mul-result
 mul-result c = search needs
@@ -28,4 +28,4 @@ returns c = omega (arith, ap orderCode (c .before .before .order .ensures .order
 pub order-value-spec : {M : Type 1} → statement M
 order-value-spec =
     tie.close
-    (tie.spec order-requires length-requires columns-requires mul-result add-result returns)
+    (tie.spec order-requires length-requires bytes-requires mul-result add-result returns)

@@ -1,4 +1,4 @@
--- `order_search::has` meets its contract: c occurs where its place is in the order.
+-- `order_search::has` meets its contract: e occurs where its place is in the order.
 use borrow.Author.Needs.{needs}
 use Rattle.orders.specs.Orders.{orderOf}
 use Rattle.theory.proofs.Reflect.{decides-number}
@@ -13,7 +13,7 @@ length-requires : tie.Need-length-requires
 length-requires c κs = search needs
 
 returns : tie.Need-returns
-returns c = let a = c .before .before .args in rw (c .before .position .ensures, c .length .ensures .0) (position-tells decides-number (a .c) (orderOf (a .o)))
+returns c = let a = c .before .before .args in rw (c .before .position .ensures, c .length .ensures .0) (position-tells decides-number (a .e) (orderOf (a .o)))
 
 pub has-spec : {M : Type 1} → statement M
 has-spec = tie.close (tie.spec position-requires length-requires returns)

@@ -1,4 +1,4 @@
--- `order_search::same` meets its contract. The loop's invariant: the first i columns are alike.
+-- `order_search::same` meets its contract. The loop's invariant: the first i entries are alike.
 use Prim.Native.Nat.{ℕ, _-_, _<_, _≤_}
 use native.Mathlib.Omega.{arith}
 use mathlib.Core.Path.{_≡_}
@@ -28,11 +28,11 @@ returns c = let a = c .before .before .before .args in differ-length (orderOf (a
 loop-holds : tie.Need-loop-holds Inv-loop μ-loop
 loop-holds c = (search needs, below-none _)
 
-column-requires : tie.Need-column-requires Inv-loop μ-loop
-column-requires c κs = search needs
+entry-requires : tie.Need-entry-requires Inv-loop μ-loop
+entry-requires c κs = search needs
 
-column-requires-2 : tie.Need-column-requires-2 Inv-loop μ-loop
-column-requires-2 c κs = search needs
+entry-requires-2 : tie.Need-entry-requires-2 Inv-loop μ-loop
+entry-requires-2 c κs = search needs
 
 returns-2 : tie.Need-returns-2 Inv-loop μ-loop
 returns-2 c = let a = c .before .before .before .before .before .before .before .before .args in differ (orderOf (a .a)) (orderOf (a .b)) (c .before .before .before .before .loop .i) (λ e. c .if2 .taken (cc))
@@ -59,8 +59,8 @@ same-spec =
     length-requires-2
     returns
     loop-holds
-    column-requires
-    column-requires-2
+    entry-requires
+    entry-requires-2
     returns-2
     add-i
     loop-less

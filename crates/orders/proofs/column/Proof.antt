@@ -1,24 +1,18 @@
--- `orders::column` meets its contract: within the length a column is that of the array, and past it there is none.
-use native.Mathlib.Omega.{arith}
-use mathlib.Core.Path.{sym}
-use lib.ListN.{List·getD-eq-default}
+-- `orders::column` meets its contract.
+use mathlib.Core.Path.{_∙_, ap}
 use borrow.Author.Needs.{needs}
-use Rattle.orders.specs.Orders.{orderOf}
-use Rattle.orders.proofs.OrderLaws.{getD-within}
+use Rattle.theory.specs.Orders.{column}
 use Rattle.orders.proofs.column.Statement.{statement}
 use Rattle.orders.proofs.column.Tie as tie
 
-length-requires : tie.Need-length-requires
-length-requires c κs = search needs
+entry-requires : tie.Need-entry-requires
+entry-requires c κs = search needs
 
-array-read-result : tie.Need-array-read-result
-array-read-result c = search needs
+column-of-requires : tie.Need-column-of-requires
+column-of-requires c κs = search needs
 
 returns : tie.Need-returns
-returns c = let a = c .before .before .before .args in sym (getD-within (a .o .len) (a .o .columns) (a .i) (omega arith))
-
-returns-2 : tie.Need-returns-2
-returns-2 c = let a = c .before .before .before .args in sym (List·getD-eq-default (orderOf (a .o)) 0 (omega arith))
+returns c = c .column-of .ensures ∙ ap column (c .before .entry .ensures)
 
 pub column-spec : {M : Type 1} → statement M
-column-spec = tie.close (tie.spec length-requires array-read-result returns returns-2)
+column-spec = tie.close (tie.spec entry-requires column-of-requires returns)

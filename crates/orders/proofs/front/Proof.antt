@@ -13,7 +13,7 @@ least-requires c κs = search needs
 
 returns : tie.Need-returns
 returns c = let a = c .before .before .before .args in
-    record { order = front-of (c .least .result) (a .n) (a .o .len) (a .o .columns) (omega arith); short = omega arith }
+    record { order = front-of (c .least .result) (a .n) (a .o .len) (a .o .entries) (omega arith); short = omega arith }
 
 pub front-spec : {M : Type 1} → statement M
 front-spec = tie.close (tie.spec length-requires least-requires returns)

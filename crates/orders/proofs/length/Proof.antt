@@ -10,7 +10,7 @@ least-requires : tie.Need-least-requires
 least-requires c κs = search needs
 
 returns : tie.Need-returns
-returns c = let h : length (c .before .args .o .columns) ≡ 4 = search needs in omega (arith, length-take (c .before .args .o .len) (c .before .args .o .columns))
+returns c = let h : length (c .before .args .o .entries) ≡ 4 = search needs in omega (arith, length-take (c .before .args .o .len) (c .before .args .o .entries))
 
 pub length-spec : {M : Type 1} → statement M
 length-spec = tie.close (tie.spec least-requires returns)

@@ -34,7 +34,7 @@ returns c =
     let q = ruled c .rules in
     let k = classed (ruled c) .classes in
     let rules = q .ensures .0 in (
-      record { rules = rules; settled = closes-none (q .last .1 .1 .0) (q .last .1 .1 .1 .0) (q .result) (c .close .result) (c .close .ensures) _ rules; alike = k .ensures .0 },
+      record { rules = rules; settled = closes-none (q .last .1 .1 .0) (q .last .1 .1 .1 .0) (q .result) (c .close .result) (c .close .ensures) _ rules; classed = k .ensures .0 },
       q .ensures .1,
       q .ensures .2,
       q .ensures .3,

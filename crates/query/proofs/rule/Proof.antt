@@ -11,20 +11,20 @@ use Rattle.query.proofs.Bodies.{padded-front, padded-next}
 use Rattle.query.proofs.rule.Statement.{statement}
 use Rattle.query.proofs.rule.Tie as tie
 
-column-requires : tie.Need-column-requires
-column-requires c κs = search needs
+entry-requires : tie.Need-entry-requires
+entry-requires c κs = search needs
 
-column-requires-2 : tie.Need-column-requires-2
-column-requires-2 c κs = search needs
+entry-requires-2 : tie.Need-entry-requires-2
+entry-requires-2 c κs = search needs
 
 returns : tie.Need-returns
 returns c = pick-yes _ (eq-eqb _ _ (c .if1 .taken)) (cc)
 
-column-requires-3 : tie.Need-column-requires-3
-column-requires-3 c κs = search needs
+entry-requires-3 : tie.Need-entry-requires-3
+entry-requires-3 c κs = search needs
 
-column-requires-4 : tie.Need-column-requires-4
-column-requires-4 c κs = search needs
+entry-requires-4 : tie.Need-entry-requires-4
+entry-requires-4 c κs = search needs
 
 front-requires : tie.Need-front-requires
 front-requires c κs = search needs
@@ -37,8 +37,8 @@ cast-count c = search needs
 
 returns-2 : tie.Need-returns-2
 returns-2 c = let a = c .before .before .before .before .before .before .before .args in
-    let four : length (a .body .columns) ≡ 4 = search needs in
-    let short : length (orderOf (a .body)) ≤ 4 = omega (arith, length-take (a .body .len) (a .body .columns)) in
+    let four : length (a .body .entries) ≡ 4 = search needs in
+    let short : length (orderOf (a .body)) ≤ 4 = omega (arith, length-take (a .body .len) (a .body .entries)) in
     let e : c .length .result ≡ length (take (a .kind) (orderOf (a .body))) = cc in
     pick-no _ (ne-eqb _ _ (c .before .before .before .before .if1 .left)) (cc (padded-front (orderOf (a .body)) short (a .kind) (c .length .result) e, padded-next (orderOf (a .body)) short (a .kind) (c .length .result) e))
 
@@ -46,11 +46,11 @@ pub rule-spec : {M : Type 1} → statement M
 rule-spec =
     tie.close
     (tie.spec
-    column-requires
-    column-requires-2
+    entry-requires
+    entry-requires-2
     returns
-    column-requires-3
-    column-requires-4
+    entry-requires-3
+    entry-requires-4
     front-requires
     length-requires
     cast-count

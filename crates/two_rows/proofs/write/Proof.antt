@@ -2,7 +2,7 @@
 use borrow.Author.Needs.{needs}
 use native.Mathlib.Omega.{arith}
 use mathlib.Core.Path.{_∙_, ap}
-use mathlib.Core.Bool.{true, false}
+use mathlib.Core.Bool.{not}
 use denote.Ref.{now}
 use Rattle.theory.proofs.RangeLaws.{entry-count}
 use Rattle.byte_rows.specs.Placed.{placed}
@@ -31,8 +31,8 @@ returns c =
     let f = first w in
     let a = f .before .before .before .args in
     w .write-row2 .ensures
-    ∙ ap (placed _ (rowBy false (a .settled) (a .class) (a .n))) (f .write-row .ensures)
-    ∙ placed-more 0 _ (rowBy true (a .settled) (a .class) (a .n)) (rowBy false (a .settled) (a .class) (a .n)) (now (a .rows)) (omega (arith, entry-count (writtenValue true (a .settled) (a .class)) 0 (a .n))) (omega arith)
+    ∙ ap (placed _ (rowBy (not (a .ascends)) (a .settled) (a .class) (a .n))) (f .write-row .ensures)
+    ∙ placed-more 0 _ (rowBy (a .ascends) (a .settled) (a .class) (a .n)) (rowBy (not (a .ascends)) (a .settled) (a .class) (a .n)) (now (a .rows)) (omega (arith, entry-count (writtenValue (a .ascends) (a .settled) (a .class)) 0 (a .n))) (omega arith)
 
 pub write-spec : {M : Type 1} → statement M
 write-spec = tie.close (tie.spec write-row-requires write-row-requires-2 same-length returns)

@@ -14,10 +14,10 @@ use Rattle.two_rows.proofs.write_row.Statement.{statement}
 use Rattle.two_rows.proofs.write_row.Tie as tie
 
 abbrev Inv-loop : tie.InvT-loop
-Inv-loop rows₀ at n first settled class c₀ rows c = (c ≤ n) × (length rows ≡ length rows₀) × (rows ≡ placed at (rowBy first settled class c) rows₀)
+Inv-loop rows₀ at n inside settled class c₀ rows c = (c ≤ n) × (length rows ≡ length rows₀) × (rows ≡ placed at (rowBy inside settled class c) rows₀)
 
 abbrev μ-loop : tie.MeasureT-loop
-μ-loop rows₀ at n first settled class c₀ rows c = n - c
+μ-loop rows₀ at n inside settled class c₀ rows c = n - c
 
 loop-holds : tie.Need-loop-holds Inv-loop μ-loop
 loop-holds c = let a = c .before .args in (search needs, refl, placed-none (now (a .rows)) (a .at))
@@ -42,8 +42,8 @@ loop-less c = search needs
 
 loop-again : tie.Need-loop-again Inv-loop μ-loop
 loop-again c = let a = c .before .before .before .before .args in let l = c .before .before .loop in let at = a .at + l .c in
-    let more = wrote-more (a .first) (a .settled) (a .class) (a .at) (l .c) (c .value .result) (now (a .rows)) (c .value .ensures) (omega arith) in
-    (omega arith, rw (l .inv .2) (ap length more ∙ placed-length (a .at) _ (now (a .rows)) (omega (arith, entry-count (writtenValue (a .first) (a .settled) (a .class)) 0 (l .c + 1)))), rw (l .inv .2) more)
+    let more = wrote-more (a .inside) (a .settled) (a .class) (a .at) (l .c) (c .value .result) (now (a .rows)) (c .value .ensures) (omega arith) in
+    (omega arith, rw (l .inv .2) (ap length more ∙ placed-length (a .at) _ (now (a .rows)) (omega (arith, entry-count (writtenValue (a .inside) (a .settled) (a .class)) 0 (l .c + 1)))), rw (l .inv .2) more)
 
 same-length : tie.Need-same-length Inv-loop μ-loop
 same-length c = search needs

@@ -57,8 +57,8 @@ held-requires c κs = let s = c .before .before .before .before .before .before 
   omega (arith, f .few, f .left-length),
   omega (arith, f .few, f .right-length),
   f .classes-length,
-  order-narrow b (f .checked) _ (c .before .before .before .before .before .order .ensures .order) (omega (arith, s .pre .1)),
-  order-narrow b (f .checked) _ (c .order2 .ensures .order) (omega arith),
+  order-narrow b (f .checked) _ _ (c .before .before .before .before .before .order .ensures .order) (omega (arith, s .pre .1)),
+  order-narrow b (f .checked) _ _ (c .order2 .ensures .order) (omega arith),
 )
 
 with-bit-requires : tie.Need-with-bit-requires Inv-loop μ-loop

@@ -13,10 +13,10 @@ use Rattle.query_check.proofs.item.below.Statement.{statement}
 use Rattle.query_check.proofs.item.below.Tie as tie
 
 abbrev Inv-loop : tie.InvT-loop
-Inv-loop o columns n i₀ i = every (λ x. ltb x columns) (orderOf o) ≡ every (λ x. ltb x columns) (drop i (orderOf o))
+Inv-loop named columns n i₀ i = every (λ x. ltb x columns) (orderOf named) ≡ every (λ x. ltb x columns) (drop i (orderOf named))
 
 abbrev μ-loop : tie.MeasureT-loop
-μ-loop o columns n i₀ i = n - i
+μ-loop named columns n i₀ i = n - i
 
 length-requires : tie.Need-length-requires Inv-loop μ-loop
 length-requires c κs = search needs
@@ -24,11 +24,11 @@ length-requires c κs = search needs
 loop-holds : tie.Need-loop-holds Inv-loop μ-loop
 loop-holds c = refl
 
-column-requires : tie.Need-column-requires Inv-loop μ-loop
-column-requires c κs = search needs
+entry-requires : tie.Need-entry-requires Inv-loop μ-loop
+entry-requires c κs = search needs
 
 returns : tie.Need-returns Inv-loop μ-loop
-returns c = let a = c .before .before .before .before .before .args in let l = orderOf (a .o) in let i = c .before .before .before .loop .i in
+returns c = let a = c .before .before .before .before .before .args in let l = orderOf (a .named) in let i = c .before .before .before .loop .i in
     sym (c .before .before .before .loop .inv ∙ every-fails (λ x. ltb x (a .columns)) l i (omega arith) (le-ltb (getD l i 0) (a .columns) (omega arith)))
 
 add-i : tie.Need-add-i Inv-loop μ-loop
@@ -38,12 +38,12 @@ loop-less : tie.Need-loop-less Inv-loop μ-loop
 loop-less c = search needs
 
 loop-again : tie.Need-loop-again Inv-loop μ-loop
-loop-again c = let a = c .before .before .before .before .before .args in let l = orderOf (a .o) in let i = c .before .before .before .loop .i in
+loop-again c = let a = c .before .before .before .before .before .args in let l = orderOf (a .named) in let i = c .before .before .before .loop .i in
     c .before .before .before .loop .inv ∙ every-more (λ x. ltb x (a .columns)) l i (omega arith) (lt-ltb (getD l i 0) (a .columns) (omega arith))
 
 returns-2 : tie.Need-returns-2 Inv-loop μ-loop
 returns-2 c = let a = c .before .before .before .args in
-    sym (c .before .loop .inv ∙ every-end (λ x. ltb x (a .columns)) (orderOf (a .o)) (c .before .loop .i) (omega arith))
+    sym (c .before .loop .inv ∙ every-end (λ x. ltb x (a .columns)) (orderOf (a .named)) (c .before .loop .i) (omega arith))
 
 pub below-spec : {M : Type 1} → statement M
 below-spec =
@@ -53,7 +53,7 @@ below-spec =
     μ-loop
     length-requires
     loop-holds
-    column-requires
+    entry-requires
     returns
     add-i
     loop-less

@@ -5,9 +5,6 @@ use Rattle.theory.specs.Query.{bodyRefusal}
 use Rattle.query_check.proofs.item.body_refusal.Statement.{statement}
 use Rattle.query_check.proofs.item.body_refusal.Tie as tie
 
-front-requires : tie.Need-front-requires
-front-requires c κs = search needs
-
 clear-from-requires : tie.Need-clear-from-requires
 clear-from-requires c κs = search needs
 
@@ -27,7 +24,7 @@ returns-2 c =
     let first = found .before in
     let clear = first .before in
     rw (← clear .clear-from .ensures, not-false (clear .clear-from .result) (first .if1 .left))
-    (rw (← clear .before .front .ensures .order, ← found .below .ensures, not-true (found .below .result) (c .if2 .taken)))
+    (rw (← found .below .ensures, not-true (found .below .result) (c .if2 .taken)))
 
 repeated-requires : tie.Need-repeated-requires
 repeated-requires c κs = search needs
@@ -40,7 +37,7 @@ returns-3 c =
     let first = found .before in
     let clear = first .before in
     rw (← clear .clear-from .ensures, not-false (clear .clear-from .result) (first .if1 .left))
-    (rw (← clear .before .front .ensures .order, ← found .below .ensures, not-false (found .below .result) (second .if2 .left))
+    (rw (← found .below .ensures, not-false (found .below .result) (second .if2 .left))
     (rw (← c .before .repeated .ensures, c .if3 .taken)))
 
 returns-4 : tie.Need-returns-4
@@ -51,14 +48,13 @@ returns-4 c =
     let first = found .before in
     let clear = first .before in
     rw (← clear .clear-from .ensures, not-false (clear .clear-from .result) (first .if1 .left))
-    (rw (← clear .before .front .ensures .order, ← found .below .ensures, not-false (found .below .result) (second .if2 .left))
+    (rw (← found .below .ensures, not-false (found .below .result) (second .if2 .left))
     (rw (← c .before .repeated .ensures, c .if3 .left)))
 
 pub body-refusal-spec : {M : Type 1} → statement M
 body-refusal-spec =
     tie.close
     (tie.spec
-    front-requires
     clear-from-requires
     returns
     below-requires

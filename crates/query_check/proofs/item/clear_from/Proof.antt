@@ -25,8 +25,8 @@ length-requires c κs = search needs
 loop-holds : tie.Need-loop-holds Inv-loop μ-loop
 loop-holds c = refl
 
-column-requires : tie.Need-column-requires Inv-loop μ-loop
-column-requires c κs = search needs
+entry-requires : tie.Need-entry-requires Inv-loop μ-loop
+entry-requires c κs = search needs
 
 returns : tie.Need-returns Inv-loop μ-loop
 returns c = let a = c .before .before .before .before .before .args in let l = orderOf (a .body) in let i = c .before .before .before .loop .i in
@@ -54,7 +54,7 @@ clear-from-spec =
     μ-loop
     length-requires
     loop-holds
-    column-requires
+    entry-requires
     returns
     add-i
     loop-less

@@ -15,10 +15,10 @@ use Rattle.query_check.proofs.item.repeated.Statement.{statement}
 use Rattle.query_check.proofs.item.repeated.Tie as tie
 
 abbrev Inv-loop : tie.InvT-loop
-Inv-loop o n i₀ i = (k : ℕ) → k < i → member eqb (getD (orderOf o) k 0) (take k (orderOf o)) ≡ false
+Inv-loop named n i₀ i = (k : ℕ) → k < i → member eqb (getD (orderOf named) k 0) (take k (orderOf named)) ≡ false
 
 abbrev μ-loop : tie.MeasureT-loop
-μ-loop o n i₀ i = n - i
+μ-loop named n i₀ i = n - i
 
 length-requires : tie.Need-length-requires Inv-loop μ-loop
 length-requires c κs = search needs
@@ -29,14 +29,14 @@ loop-holds c = below-none _
 front-requires : tie.Need-front-requires Inv-loop μ-loop
 front-requires c κs = search needs
 
-column-requires : tie.Need-column-requires Inv-loop μ-loop
-column-requires c κs = search needs
+entry-requires : tie.Need-entry-requires Inv-loop μ-loop
+entry-requires c κs = search needs
 
 has-requires : tie.Need-has-requires Inv-loop μ-loop
 has-requires c κs = search needs
 
 returns : tie.Need-returns Inv-loop μ-loop
-returns c = let l = orderOf (c .before .before .before .before .before .before .before .args .o) in sym (repeats-found decides-number 0 l (c .before .before .before .before .before .loop .i) (omega arith) (cc))
+returns c = let l = orderOf (c .before .before .before .before .before .before .before .args .named) in sym (repeats-found decides-number 0 l (c .before .before .before .before .before .loop .i) (omega arith) (cc))
 
 add-i : tie.Need-add-i Inv-loop μ-loop
 add-i c = search needs
@@ -48,7 +48,7 @@ loop-again : tie.Need-loop-again Inv-loop μ-loop
 loop-again c = below-more _ _ (c .before .before .before .before .before .loop .inv) (cc)
 
 returns-2 : tie.Need-returns-2 Inv-loop μ-loop
-returns-2 c = let l = orderOf (c .before .before .before .args .o) in sym (repeats-none decides-number 0 l (λ k h. c .before .loop .inv k (omega arith)))
+returns-2 c = let l = orderOf (c .before .before .before .args .named) in sym (repeats-none decides-number 0 l (λ k h. c .before .loop .inv k (omega arith)))
 
 pub repeated-spec : {M : Type 1} → statement M
 repeated-spec =
@@ -59,7 +59,7 @@ repeated-spec =
     length-requires
     loop-holds
     front-requires
-    column-requires
+    entry-requires
     has-requires
     returns
     add-i

@@ -2,13 +2,16 @@
 mod Turn
 use Prim.Native.Nat.{_^_}
 use native.Mathlib.Omega.{arith}
-use mathlib.Core.Path.{sym, _∙_, ap, subst}
+use mathlib.Core.Path.{sym, _∙_, ap, ap₂, subst, subst₂}
+use mathlib.Core.Bool.{not}
 use lib.Bits.{bitOr}
 use lib.ListN.{getD}
 use borrow.Author.Needs.{needs}
 use borrow.Author.Tests.{not-true, not-false}
+use Rattle.theory.specs.Orders.{descends, column}
 use Rattle.orders.specs.Orders.{orderOf}
 use Rattle.settled.specs.declared.Tested.the-variants as tested
+use Rattle.settled.specs.Places.{classIn}
 use Rattle.closure.specs.Closing.{Closes}
 use Rattle.settled.proofs.TestLaws.{Ended, midway-begins, midway-next, midway-fails, midway-last, midway-end, meets-there}
 use Rattle.settled.proofs.test.test.Proof.Turn.{Inv-loop, μ-loop, entry, turn, begun, read, met, short, inside, narrow, comparison}
@@ -29,29 +32,30 @@ loop-holds c = let a = entry (c .before) .args in let s = c .unsettled .ensures 
   midway-begins (a .left .now) (a .right .now) (a .n) (a .start) (a .classes .now) (orderOf (a .p)) (orderOf (a .o)) (c .unsettled .result) s,
 )
 
-column-requires : tie.Need-column-requires Inv-loop μ-loop
-column-requires c κs = search needs
+entry-requires : tie.Need-entry-requires Inv-loop μ-loop
+entry-requires c κs = search needs
 
 unsettled-requires-2 : tie.Need-unsettled-requires-2 Inv-loop μ-loop
 unsettled-requires-2 c κs = (begun c .pre .3, turn c .loop .inv .1)
 
 meets-requires : tie.Need-meets-requires Inv-loop μ-loop
-meets-requires c κs = let s = begun (c .before) in (s .pre .2, rw (c .before .column .ensures) (narrow (c .before)), s .pre .3)
+meets-requires c κs = let s = begun (c .before) in (s .pre .2, rw (c .before .entry .ensures) (narrow (c .before)), s .pre .3)
 
-cast-t15 : tie.Need-cast-t15 Inv-loop μ-loop
-cast-t15 c = search needs
+entry-requires-2 : tie.Need-entry-requires-2 Inv-loop μ-loop
+entry-requires-2 c κs = search needs
 
-mul-t16 : tie.Need-mul-t16 Inv-loop μ-loop
-mul-t16 c = search needs
+class-by-requires : tie.Need-class-by-requires Inv-loop μ-loop
+class-by-requires c κs = let r = read (c .before .before) in (begun r .pre .2, rw (r .entry .ensures) (narrow r))
 
-shared-slice-read-t18 : tie.Need-shared-slice-read-t18 Inv-loop μ-loop
-shared-slice-read-t18 c = let r = read (c .before .before) in rw (r .column .ensures, begun r .pre .2) (narrow r)
+descends-requires : tie.Need-descends-requires Inv-loop μ-loop
+descends-requires c κs = search needs
 
 returns : tie.Need-returns Inv-loop μ-loop
-returns c = let m = c .before .before in let r = read m in let a = begun r .args in let at = turn r .loop in let k = m .before .unsettled2 in
-    subst (λ x. Ended (a .left .now) (a .right .now) (a .n) (a .start) (a .classes .now) (orderOf (a .p)) (orderOf (a .o)) (tested.Stopped (at .mask) (getD (a .classes .now) x 0))) (sym (r .column .ensures))
+returns c = let x = c .before .before in let m = x .before .before in let r = read m in let a = begun r .args in let at = turn r .loop in let k = m .before .unsettled2 in
+    subst₂ (λ class up. Ended (a .left .now) (a .right .now) (a .n) (a .start) (a .classes .now) (orderOf (a .p)) (orderOf (a .o)) (tested.Stopped (at .mask) class up))
+    (sym (c .before .class-by .ensures ∙ ap₂ (λ e y. classIn (a .classes .now) e (descends y)) (r .entry .ensures) (x .entry2 .ensures))) (sym (ap not (c .descends .ensures ∙ ap descends (x .entry2 .ensures))))
     (midway-fails (a .left .now) (a .right .now) (a .n) (a .start) (a .classes .now) (orderOf (a .p)) (orderOf (a .o)) (at .i) (at .j) (at .mask) (at .inv .3) (inside r) (at .inv .2 (inside r))
-    (narrow r) (k .result) (k .ensures) (sym (not-true (m .meets .result) (c .before .if1 .taken)) ∙ comparison m))
+    (narrow r) (k .result) (k .ensures) (sym (not-true (m .meets .result) (x .before .if1 .taken)) ∙ comparison m))
 
 add-if2 : tie.Need-add-if2 Inv-loop μ-loop
 add-if2 c = search needs
@@ -61,8 +65,11 @@ returns-2 c = let m = c .before .before in let r = read m in let a = begun r .ar
     midway-last (a .left .now) (a .right .now) (a .n) (a .start) (a .classes .now) (orderOf (a .p)) (orderOf (a .o)) (at .i) (at .j) (at .mask) (at .inv .3) (inside r) (at .inv .2 (inside r))
     (narrow r) (k .result) (k .ensures) (sym (not-false (m .meets .result) (c .before .if1 .left)) ∙ comparison m) (omega arith)
 
+column-of-requires : tie.Need-column-of-requires Inv-loop μ-loop
+column-of-requires c κs = search needs
+
 bit-requires : tie.Need-bit-requires Inv-loop μ-loop
-bit-requires c κs = let r = read (c .before .before) in rw (r .column .ensures) (narrow r)
+bit-requires c κs = let r = read (c .before .before .before) in rw (c .column-of .ensures, r .entry .ensures) (narrow r)
 
 close-requires : tie.Need-close-requires Inv-loop μ-loop
 close-requires c κs = search needs
@@ -82,7 +89,7 @@ loop-less c = omega (arith, c .unsettled3 .ensures .forth)
 loop-again : tie.Need-loop-again Inv-loop μ-loop
 loop-again c = let m = met (c .before) .before in let r = read m in let a = begun r .args in let at = turn r .loop in let k = m .before .unsettled2 in let next = c .unsettled3 .ensures in
     let alike = sym (not-false (m .meets .result) (met (c .before) .if1 .left)) ∙ comparison m in
-    let bit = c .before .before .bit .ensures ∙ ap (λ x. 2 ^ x) (r .column .ensures) in
+    let bit = c .before .before .bit .ensures ∙ ap (λ x. 2 ^ x) (c .before .before .before .column-of .ensures ∙ ap column (r .entry .ensures)) in
     let closes = subst (λ x. Closes (a .left .now) (a .right .now) (a .n) (bitOr (at .mask) x) (c .before .close .result)) bit (c .before .close .ensures) in (
       next .within,
       omega (arith, meets-there (a .classes .now) (getD (orderOf (a .o)) (at .i) 0) (orderOf (a .p)) (k .result) alike),
@@ -104,15 +111,16 @@ test-spec =
     length-requires
     unsettled-requires
     loop-holds
-    column-requires
+    entry-requires
     unsettled-requires-2
     meets-requires
-    cast-t15
-    mul-t16
-    shared-slice-read-t18
+    entry-requires-2
+    class-by-requires
+    descends-requires
     returns
     add-if2
     returns-2
+    column-of-requires
     bit-requires
     close-requires
     add-unsettled

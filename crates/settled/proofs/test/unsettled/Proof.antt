@@ -9,13 +9,14 @@ use borrow.Author.Needs.{needs}
 use borrow.Author.Count.{below-more}
 use borrow.Author.Tests.{not-true, not-false}
 use Rattle.theory.specs.Tests.{inMask}
+use Rattle.theory.specs.Orders.{column}
 use Rattle.orders.specs.Orders.{orderOf}
-use Rattle.column_masks.proofs.MaskLaws.{narrow-at}
+use Rattle.column_masks.proofs.MaskLaws.{column-narrow}
 use Rattle.settled.proofs.test.unsettled.Statement.{statement}
 use Rattle.settled.proofs.test.unsettled.Tie as tie
 
 abbrev Inv-loop : tie.InvT-loop
-Inv-loop o from mask n i₀ i = (from ≤ i) × (i ≤ length (orderOf o)) × ((k : ℕ) → k < i → from ≤ k → inMask mask (getD (orderOf o) k 0) ≡ true)
+Inv-loop o from mask n i₀ i = (from ≤ i) × (i ≤ length (orderOf o)) × ((k : ℕ) → k < i → from ≤ k → inMask mask (column (getD (orderOf o) k 0)) ≡ true)
 
 abbrev μ-loop : tie.MeasureT-loop
 μ-loop o from mask n i₀ i = n - i
@@ -37,7 +38,7 @@ column-requires : tie.Need-column-requires Inv-loop μ-loop
 column-requires c κs = search needs
 
 has-requires : tie.Need-has-requires Inv-loop μ-loop
-has-requires c κs = let s = entry (turn c) in rw (c .column .ensures) (narrow-at (orderOf (s .args .o)) (turn c .loop .i) (s .pre .0) (omega arith))
+has-requires c κs = let s = entry (turn c) in rw (c .column .ensures) (column-narrow (orderOf (s .args .o)) (turn c .loop .i) (s .pre .0) (omega arith))
 
 returns : tie.Need-returns Inv-loop μ-loop
 returns c = let t = turn (c .before .before) in let a = entry t .args in let at = t .loop in
@@ -58,7 +59,7 @@ loop-again : tie.Need-loop-again Inv-loop μ-loop
 loop-again c = let t = turn (c .before .before) in let a = entry t .args in let at = t .loop in (
   omega arith,
   omega arith,
-  below-more (λ k. a .from ≤ k → inMask (a .mask) (getD (orderOf (a .o)) k 0) ≡ true) (at .i) (at .inv .2) (λ l. ap (inMask (a .mask)) (sym (c .before .before .column .ensures)) ∙ sym (c .before .has .ensures) ∙ not-false (c .before .has .result) (c .if1 .left)),
+  below-more (λ k. a .from ≤ k → inMask (a .mask) (column (getD (orderOf (a .o)) k 0)) ≡ true) (at .i) (at .inv .2) (λ l. ap (inMask (a .mask)) (sym (c .before .before .column .ensures)) ∙ sym (c .before .has .ensures) ∙ not-false (c .before .has .result) (c .if1 .left)),
 )
 
 returns-2 : tie.Need-returns-2 Inv-loop μ-loop
