@@ -1,8 +1,9 @@
 //! Asking without a table, by reduction, as document 000 sketches it in section
 //! 3: a plan node has its produced order and the dependencies of the sets taken.
 //! To ask for an order, both orders are reduced: every column that a dependency
-//! settles from columns before it is removed. The order asked for is held when
-//! its reduction is a prefix of the other's.
+//! settles from columns before it is removed, whatever its direction. The order
+//! asked for is held when its reduction is a prefix of the other's, the directions
+//! of its entries included.
 //!
 //! Columns that an equal joins stand for one another, so the smallest of them
 //! takes their place. The dependencies are tried in turn until none applies.
@@ -10,7 +11,7 @@
 //! which it tries the dependencies, and so on that in which sets are taken.
 
 use reference::query::{column_set, ColumnSet, Order};
-use reference::{Query, Rule};
+use reference::{Entry, Query, Rule};
 
 /// A fix as column sets.
 #[derive(Clone, Copy)]
@@ -66,37 +67,44 @@ impl PlanNode {
     }
 
     /// Whether an order is held, by reduction.
-    pub fn ask(&self, order: &[u8]) -> bool {
+    pub fn ask(&self, order: &[Entry]) -> bool {
         let (own, own_length) = self.reduced(&self.order);
         let (asked, asked_length) = self.reduced(order);
         asked_length <= own_length && own[..asked_length] == asked[..asked_length]
     }
 
-    /// The reduction of an order of at most four columns: its columns and how
+    /// The reduction of an order of at most four entries: its entries and how
     /// many they are.
-    fn reduced(&self, order: &[u8]) -> ([u8; 4], usize) {
-        let mut columns = [0; 4];
+    fn reduced(&self, order: &[Entry]) -> ([Entry; 4], usize) {
+        let mut entries = [Entry::from(0); 4];
         let mut length = 0;
-        for &column in order {
-            let column = self.standing_for[usize::from(column)];
-            if !columns[..length].contains(&column) {
-                columns[length] = column;
+        for entry in order {
+            let column = self.standing_for[usize::from(entry.column)];
+            if place_of(&entries[..length], column).is_none() {
+                entries[length] = Entry { column, ..*entry };
                 length += 1;
             }
         }
-        while let Some(place) = self.settled(&columns[..length]) {
-            columns.copy_within(place + 1..length, place);
+        while let Some(place) = self.settled(&entries[..length]) {
+            entries.copy_within(place + 1..length, place);
             length -= 1;
         }
-        (columns, length)
+        (entries, length)
     }
 
-    /// The place of a column that a dependency settles from columns before it.
-    fn settled(&self, columns: &[u8]) -> Option<usize> {
+    /// The place of an entry whose column a dependency settles from columns before
+    /// it.
+    fn settled(&self, entries: &[Entry]) -> Option<usize> {
         self.fixes.iter().find_map(|fix| {
-            let place = columns.iter().position(|&column| column == fix.right)?;
-            let before = column_set(&columns[..place]);
+            let place = place_of(entries, fix.right)?;
+            let before = entries[..place].iter();
+            let before = before.fold(0, |columns, entry| columns | 1 << entry.column);
             (fix.left & !before == 0).then_some(place)
         })
     }
+}
+
+/// Where a column stands, in whichever direction.
+fn place_of(entries: &[Entry], column: u8) -> Option<usize> {
+    entries.iter().position(|entry| entry.column == column)
 }

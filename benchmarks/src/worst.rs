@@ -5,7 +5,7 @@ use std::time::{Duration, Instant};
 
 use reference::random::Random;
 use reference::samples::{
-    self, dependency, query_of_chains, query_of_many_rows, some_columns, Shape,
+    self, dependency, query_of_chains, query_of_many_rows, some_order, Shape,
 };
 use reference::Query;
 
@@ -138,11 +138,11 @@ fn change(random: &mut Random, query: &mut Query) {
     query.columns = 12;
     match random.below(8) {
         0 => {
-            let order = some_columns(random, columns, (0, 4));
+            let order = some_order(random, columns, (0, 4));
             put(random, &mut query.produced, 8, order);
         }
         1 => {
-            let order = some_columns(random, columns, (1, 4));
+            let order = some_order(random, columns, (1, 4));
             put(random, &mut query.tested, 8, order);
         }
         2 if query.produced.len() > 1 => remove(random, &mut query.produced),

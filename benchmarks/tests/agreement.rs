@@ -1,10 +1,12 @@
 //! What is timed beside the proved library does the same work: the lookups by
-//! hand give its numbers, and the reduction its answers where document 000 says
-//! so.
+//! hand give its numbers, and the reduction a table's answers where document 000
+//! says so, in either direction.
 
 use benchmarks::by_hand;
 use benchmarks::reduction::PlanNode;
 use order_tables::raw as proved;
+use reference::builder::build_table;
+use reference::query::order;
 use reference::random::Random;
 use reference::{samples, trials, Dependency, Implementation, Query, Reference};
 
@@ -32,17 +34,33 @@ fn lookups_by_hand() {
 }
 
 #[test]
-fn reduction_of_the_example() {
-    let example = trials::example();
-    let query = Query::read(&example.query).expect("the example is read");
-    for produced in 0..2 {
-        for sets in [&[][..], &[0], &[1], &[0, 1], &[1, 0]] {
-            let state = Reference::follow(&example.table, produced, sets).expect("granted");
-            let mut node = PlanNode::new(&query.produced[usize::from(produced)]);
-            sets.iter().for_each(|&set| node.take(&query, set));
-            for (handle, order) in (0..).zip(query.interesting()) {
-                let held = Reference::ask(&example.table, state, handle);
-                assert_eq!(Ok(node.ask(order)), held, "{order:?} after {sets:?}");
+fn reduction_of_some_trials() {
+    for name in [
+        "listing_example",
+        "trip_reports",
+        "both_directions",
+        "constant_in_either_direction",
+        "equal_takes_the_direction",
+        "inserted_in_either_direction",
+        "descending_column_goes",
+    ] {
+        let query = trials::named(name).query;
+        let table = build_table(&query).expect("the trial has a table");
+        let query = Query::read(&query).expect("the trial's query is read");
+        for produced in 0..query.produced.len() as u8 {
+            for choice in 0..1 << query.sets {
+                let mut sets = query.chosen(choice);
+                for _ in 0..2 {
+                    let state = Reference::follow(&table, produced, &sets).expect("granted");
+                    let mut node = PlanNode::new(&query.produced[usize::from(produced)]);
+                    sets.iter().for_each(|&set| node.take(&query, set));
+                    for (handle, order) in (0..).zip(query.interesting()) {
+                        let held = Reference::ask(&table, state, handle);
+                        let case = format!("{order:?} after {sets:?} of {name}");
+                        assert_eq!(Ok(node.ask(order)), held, "{case}");
+                    }
+                    sets.reverse();
+                }
             }
         }
     }
@@ -55,14 +73,14 @@ fn reduction_is_not_confluent() {
     for held in [true, false] {
         let query = Query {
             columns: 3,
-            produced: vec![vec![a]],
+            produced: vec![order(&[a])],
             tested: vec![],
             sets: 1,
             dependencies: dependencies.clone(),
         };
         let mut node = PlanNode::new(&query.produced[0]);
         node.take(&query, 0);
-        assert_eq!(node.ask(&[a, b, c]), held);
+        assert_eq!(node.ask(&order(&[a, b, c])), held);
         dependencies.reverse();
     }
 }

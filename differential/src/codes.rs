@@ -1,7 +1,7 @@
 //! The numbers that the proved library's functions return, made from the second
 //! implementation's answers, or made into one.
 
-use reference::Dependency;
+use reference::{Dependency, Entry};
 
 /// A refusal's number times 65,536 plus the value, which is 0 on refusal.
 pub fn answer(answer: Result<u32, u8>) -> u32 {
@@ -30,21 +30,21 @@ pub fn two_rows(code: u32) -> Option<Result<bool, u8>> {
     (answer(said.map(u32::from)) == code).then_some(said)
 }
 
-/// An order: its length in the lowest byte, then its columns, a byte each.
-pub fn order(order: &[u8]) -> u64 {
-    order.len() as u64 | columns(order) << 8
+/// An order: its length in the lowest byte, then its entries, a byte each.
+pub fn order(order: &[Entry]) -> u64 {
+    let entries = order.iter().map(|entry| entry.byte());
+    order.len() as u64 | bytes(entries) << 8
 }
 
 /// A dependency: its set in the lowest byte, its kind in the next one, then its
 /// columns, a byte each.
 pub fn dependency(Dependency { set, rule }: &Dependency) -> u64 {
-    u64::from(*set) | u64::from(rule.kind()) << 8 | columns(&rule.columns()) << 16
+    u64::from(*set) | u64::from(rule.kind()) << 8 | bytes(rule.columns().into_iter()) << 16
 }
 
-/// Columns, a byte each, the first one lowest.
-fn columns(columns: &[u8]) -> u64 {
-    columns
-        .iter()
+/// Bytes as one number, the first one lowest.
+fn bytes(bytes: impl DoubleEndedIterator<Item = u8>) -> u64 {
+    bytes
         .rev()
-        .fold(0, |number, &column| number << 8 | u64::from(column))
+        .fold(0, |number, byte| number << 8 | u64::from(byte))
 }

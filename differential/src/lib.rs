@@ -5,8 +5,8 @@
 //! numbers they have to return for the second implementation's answers.
 //! [`library`] puts trials and lists of lookups to the library, [`mod@replay`]
 //! makes the bytes of a replay, [`lent`] lends bytes between guard bytes,
-//! [`programs`] finds the proved programs, and [`tally`] counts. The tests of this
-//! package do the comparing.
+//! [`programs`] finds the proved programs, and [`tally`] and [`directions`] count. The
+//! tests of this package do the comparing.
 //!
 //! Each test compares with fixed seeds. With the environment variable
 //! `ORDER_TABLES_ROUNDS` the tests of building, listing, verifying and asking for two
@@ -17,6 +17,7 @@
 use std::env;
 
 pub mod codes;
+pub mod directions;
 pub mod lent;
 pub mod library;
 pub mod programs;

@@ -4,6 +4,7 @@
 //! on them are answered as the plain model answers them, and the words of their
 //! states have its answers as bits. Refusal 7 never comes.
 
+use differential::directions::Directions;
 use differential::lent::Lent;
 use differential::replay::{lookup_bytes, replayed_answers};
 use differential::tally::Tally;
@@ -13,15 +14,16 @@ use reference::builder::build_table;
 use reference::construction::of_pairs;
 use reference::lookups::{model_answers, table_answers, Answer};
 use reference::merging::merged;
+use reference::query::ColumnSet;
 use reference::random::Random;
 use reference::refusal::{ORDERINGS, STATES};
 use reference::samples::{
     self, chain_of_equals, constants, joined_starts, longest_table, most_orders,
-    near_the_most_rows, own_column_per_set, Shape,
+    near_the_most_rows, own_column_per_set, turned, Shape,
 };
 use reference::table::Table;
 use reference::verification::two_alike;
-use reference::{buffers, listing, trials, Dependency, Implementation, Query};
+use reference::{buffers, listing, trials, Dependency, Implementation, Query, Rule};
 
 /// The length of a table, for queries that have none.
 const SOME_TABLE: usize = 22;
@@ -52,6 +54,7 @@ fn some_lengths(random: &mut Random, length: usize, longest: usize) -> Vec<(usiz
 /// A comparison of builds and listings, and what was compared so far.
 struct Comparison {
     random: Random,
+    directions: Directions,
     queries: Tally,
     builds: Tally,
     listings: Tally,
@@ -61,6 +64,7 @@ impl Comparison {
     fn new(seed: u64) -> Self {
         Self {
             random: Random::new(seed),
+            directions: Directions::default(),
             queries: Tally::default(),
             builds: Tally::default(),
             listings: Tally::default(),
@@ -73,8 +77,24 @@ impl Comparison {
         self.compare_lists(query, lengths);
     }
 
+    /// Compares builds and listings of a query, and of one with columns turned round that
+    /// has the same table.
+    fn compare_either_way(&mut self, query: &Query) {
+        let mut rules = query.dependencies.iter().map(|dependency| &dependency.rule);
+        let columns = match rules.any(|rule| matches!(rule, Rule::Equal(..))) {
+            true => ColumnSet::MAX,
+            false => 0b0101_0101_0101,
+        };
+        let turned = turned(query, columns);
+        assert_eq!(rows(&turned), rows(query), "{turned:?}");
+        for query in [query, &turned] {
+            self.compare(&query.write(), some_lengths);
+        }
+    }
+
     /// Compares builds of a query.
     fn compare_builds(&mut self, query: &[u8], lengths: Lengths) {
+        self.directions.count(query);
         let table = build_table(query);
         let length = table.as_ref().map_or(SOME_TABLE, Vec::len);
         let known = |scratch: &mut [u8], output: &mut [u8]| buffers::build(&table, scratch, output);
@@ -88,6 +108,7 @@ impl Comparison {
 
     /// Compares listings of a query.
     fn compare_lists(&mut self, query: &[u8], lengths: Lengths) {
+        self.directions.count(query);
         let lines = listing::lines(query);
         let length = listing::printed(&lines).len();
         let known = |scratch: &mut [u8], text: &mut [u8]| buffers::list(&lines, scratch, text);
@@ -137,6 +158,7 @@ impl Comparison {
         .map(|(kind, tally)| format!("{} {kind}: {tally}", tally.all()))
         .collect();
         println!("{what}: {}", compared.join("; "));
+        println!("    queries {}", self.directions);
     }
 }
 
@@ -156,6 +178,10 @@ fn queries_of_every_kind_built() {
         assert!(given.iter().all(|&n| comparison.builds.with(n) > 2 * 80));
         assert!([0, 9].iter().all(|&n| comparison.builds.with(n) > 3 * 80));
         assert_eq!(comparison.builds.with(ORDERINGS), 0);
+        assert!(comparison.directions.are_mixed());
+        assert!(comparison
+            .directions
+            .descending_with(&[1, 2, 3, 4, 5, 6], 20));
     }
 }
 
@@ -170,18 +196,27 @@ fn queries_of_every_kind_listed() {
         comparison.report("queries of every kind, listed");
         assert!(comparison.listings.with(0) > 20_000);
         assert!(comparison.listings.with(9) > 10_000);
+        assert!(comparison.directions.are_mixed());
+        assert!(comparison
+            .directions
+            .descending_with(&[1, 2, 3, 4, 5, 6], 20));
     }
 }
 
 #[test]
 fn every_byte_of_the_example_changed() {
     let mut comparison = Comparison::new(3);
-    let bytes = (0..32).chain([64, 65, 66, 79, 80, 127, 128, 254, 255]);
-    for query in samples::each_byte_changed(&trials::example().query, bytes) {
-        comparison.compare(&query, some_lengths);
+    let bytes = (0..32).chain([64, 65, 66, 79, 80, 127, 128, 129, 130, 131, 254, 255]);
+    for query in [trials::example(), trials::named("both_directions")] {
+        for query in samples::each_byte_changed(&query.query, bytes.clone()) {
+            comparison.compare(&query, some_lengths);
+        }
     }
-    comparison.report("the example with a byte changed");
+    comparison.report("the example and one with both directions, with a byte changed");
     assert!((0..=6).all(|refusal| comparison.queries.with(refusal) > 0));
+    assert!(comparison
+        .directions
+        .descending_with(&[0, 1, 2, 3, 4, 5, 6], 0));
 }
 
 #[test]
@@ -240,33 +275,34 @@ fn rows_up_to_128_and_past_them() {
     ] {
         let query = near_the_most_rows(joined, unsorted);
         assert_eq!(rows(&query), expected, "{query:?}");
-        comparison.compare(&query.write(), some_lengths);
+        comparison.compare_either_way(&query);
     }
     for sets in 0..=8 {
         let mut query = own_column_per_set(sets);
-        comparison.compare(&query.write(), some_lengths);
+        comparison.compare_either_way(&query);
         // The same pairs, none of which is told from another.
         query.tested.clear();
         assert_eq!(rows(&query), Ok(1), "{query:?}");
-        comparison.compare(&query.write(), some_lengths);
+        comparison.compare_either_way(&query);
         query.dependencies.clear();
-        comparison.compare(&query.write(), some_lengths);
+        comparison.compare_either_way(&query);
         // One start more.
         query.produced.push(vec![]);
         assert_eq!(rows(&query), Ok(2), "{query:?}");
-        comparison.compare(&query.write(), some_lengths);
-        comparison.compare(&joined_starts(sets).write(), some_lengths);
+        comparison.compare_either_way(&query);
+        comparison.compare_either_way(&joined_starts(sets));
     }
     for sets in 1..=8 {
-        comparison.compare(&chain_of_equals(sets).write(), some_lengths);
+        comparison.compare_either_way(&chain_of_equals(sets));
     }
     // The most orders, without and with the most sets and rows.
     for (query, expected) in [(most_orders(), 16), (longest_table(), 128)] {
         assert_eq!(rows(&query), Ok(expected), "{query:?}");
-        comparison.compare(&query.write(), some_lengths);
+        comparison.compare_either_way(&query);
     }
     comparison.report("rows up to 128 and past them");
-    assert_eq!(comparison.queries.with(STATES), 3);
+    assert_eq!(comparison.queries.with(STATES), 2 * 3);
+    assert!(comparison.directions.are_mixed());
 }
 
 #[test]
@@ -294,7 +330,7 @@ fn orderings_are_never_refused() {
             comparison.compare(&query.write(), some_lengths);
         }
         comparison.report("seven constants or more");
-        assert!(comparison.queries.with(0) > 350);
+        assert!(comparison.queries.with(0) > 350 && comparison.directions.are_mixed());
         for tally in [
             &comparison.queries,
             &comparison.builds,
@@ -316,7 +352,7 @@ fn settled_columns_of_many_columns_and_sets() {
             comparison.compare_builds(&query.write(), some_lengths);
         }
         comparison.report("settled columns of many columns and sets");
-        assert!(comparison.queries.with(0) > 1500);
+        assert!(comparison.queries.with(0) > 1500 && comparison.directions.are_mixed());
     }
 }
 
@@ -324,6 +360,7 @@ fn settled_columns_of_many_columns_and_sets() {
 fn built_tables_are_the_smallest() {
     for round in 0..rounds() {
         let mut random = Random::new(1000 * round + 10);
+        let mut directions = Directions::default();
         let (mut tables, mut smaller) = (0, 0);
         for _ in 0..10_000 {
             let query = samples::any_query(&mut random);
@@ -332,6 +369,7 @@ fn built_tables_are_the_smallest() {
             let Ok(length) = built else {
                 continue;
             };
+            directions.count(&query);
             let table = Table::read(&output[..length]).expect("a built table has the form");
             assert_eq!(merged(&table), table, "{query:?}");
             assert_eq!(two_alike(&table), None, "{query:?}");
@@ -341,7 +379,8 @@ fn built_tables_are_the_smallest() {
             smaller += usize::from(table.states.len() < pairs);
         }
         println!("{tables} built tables are the smallest, {smaller} have fewer rows than pairs");
-        assert!(tables > 4000 && smaller > 500);
+        println!("    queries {directions}");
+        assert!(tables > 4000 && smaller > 500 && directions.are_mixed());
     }
 }
 
@@ -349,6 +388,7 @@ fn built_tables_are_the_smallest() {
 fn lists_of_lookups_on_built_tables() {
     for round in 0..rounds() {
         let mut random = Random::new(1000 * round + 7);
+        let mut directions = Directions::default();
         let mut answers = [0; 4];
         for (shape, count) in [
             (Shape::SMALL, 2000),
@@ -361,6 +401,7 @@ fn lists_of_lookups_on_built_tables() {
                     0 => samples::query_with_table(&mut random, shape),
                     _ => samples::chains_with_table(&mut random, shape),
                 };
+                directions.count(&query.write());
                 let lookups = samples::lookups(&mut random, &query, 40);
                 let expected = model_answers(&query, &lookups);
                 let table = Lent::new(&mut random, &table);
@@ -391,7 +432,8 @@ fn lists_of_lookups_on_built_tables() {
             "lists of lookups on 4800 built tables: {moves} entries and takes, \
              {held} held, {not_held} not held, {refused} refused"
         );
-        assert!(answers.iter().all(|&count| count > 5000));
+        println!("    queries {directions}");
+        assert!(answers.iter().all(|&count| count > 5000) && directions.are_mixed());
     }
 }
 
@@ -399,6 +441,7 @@ fn lists_of_lookups_on_built_tables() {
 fn the_same_sets_in_any_order_and_however_often() {
     for round in 0..rounds() {
         let mut random = Random::new(1000 * round + 11);
+        let mut directions = Directions::default();
         let (mut sequences, mut held, mut not_held) = (0, 0, 0);
         for (shape, count) in [
             (Shape::CHAINS, 2000),
@@ -407,6 +450,7 @@ fn the_same_sets_in_any_order_and_however_often() {
         ] {
             for _ in 0..count {
                 let (query, _) = samples::chains_with_table(&mut random, shape);
+                directions.count(&query.write());
                 let mut output = [0; LONGEST_TABLE];
                 let length = Library::build(&query.write(), &mut [0; SCRATCH_BYTES], &mut output);
                 let table = &output[..length.expect("the query has a table")];
@@ -441,7 +485,8 @@ fn the_same_sets_in_any_order_and_however_often() {
         println!(
             "the same sets in {sequences} other sequences: {held} orders held, {not_held} not held"
         );
-        assert!(sequences > 3000 && held > 2000 && not_held > 2000);
+        println!("    queries {directions}");
+        assert!(sequences > 3000 && held > 2000 && not_held > 2000 && directions.are_mixed());
     }
 }
 

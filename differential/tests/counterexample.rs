@@ -4,6 +4,7 @@
 //! obey the sets in force and do not stand in the order looked for. There are none
 //! exactly where the tables that the library builds say held.
 
+use differential::directions::Directions;
 use differential::lent::Lent;
 use differential::tally::Tally;
 use differential::{codes, proved, rounds, Library};
@@ -18,6 +19,7 @@ use reference::{trials, Implementation, Query};
 /// A comparison of what is asked for two rows, and what was compared so far.
 struct Comparison {
     random: Random,
+    directions: Directions,
     answers: Tally,
     /// Of the answers that are not refused, those with two rows and those without.
     shown: usize,
@@ -33,6 +35,7 @@ impl Comparison {
     fn new(seed: u64) -> Self {
         Self {
             random: Random::new(seed),
+            directions: Directions::default(),
             answers: Tally::default(),
             shown: 0,
             none: 0,
@@ -66,6 +69,7 @@ impl Comparison {
             assert_eq!(held, Ok(!shown), "{case}");
         }
         self.answers.count(code);
+        self.directions.count(query.bytes());
         self.count(query.bytes(), asked, answer);
         answer
     }
@@ -137,6 +141,7 @@ impl Comparison {
              trying all rows",
             answers.all()
         );
+        println!("    of queries {}", self.directions);
         if self.answers.with(HANDLE) > 0 {
             println!(
                 "    refused with 10 for one alone: {produced} produced orders, {sets} choices \
@@ -163,6 +168,10 @@ fn queries_of_every_kind() {
         assert!(comparison.has(&[1, 2, 3, 4, 5, 6, HANDLE, SPACE], 30));
         assert!(comparison.has_all_ways(100) && comparison.searched > 1000);
         assert_eq!(comparison.answers.with(STATES), 0);
+        assert!(comparison.directions.are_mixed());
+        assert!(comparison
+            .directions
+            .descending_with(&[1, 2, 3, 4, 5, 6], 10));
     }
 }
 
@@ -191,7 +200,7 @@ fn all_that_is_asked_of_small_queries() {
         comparison.report("all that is asked of small queries");
         assert!(comparison.shown > 5000 && comparison.none > 5000);
         assert_eq!(comparison.searched, comparison.shown + comparison.none);
-        assert!(comparison.has(&[SPACE], 3000));
+        assert!(comparison.has(&[SPACE], 3000) && comparison.directions.are_mixed());
     }
 }
 
@@ -218,20 +227,26 @@ fn large_queries() {
         assert!(comparison.answers.all() > 10_000);
         assert!(comparison.has_all_ways(100));
         assert!(comparison.shown > 3000 && comparison.none > 1000);
+        assert!(comparison.directions.are_mixed());
     }
 }
 
 #[test]
 fn every_byte_of_the_example_changed() {
     let mut comparison = Comparison::new(4);
-    let bytes = (0..32).chain([64, 65, 66, 79, 80, 127, 128, 254, 255]);
-    for query in samples::each_byte_changed(&trials::example().query, bytes) {
-        for asked in [[0, 0, 2], [1, 3, 3], [0, 4, 2]] {
-            let _ = comparison.compare_in_some(&query, asked.into());
+    let bytes = (0..32).chain([64, 65, 66, 79, 80, 127, 128, 129, 130, 131, 254, 255]);
+    for trial in [trials::example(), trials::named("both_directions")] {
+        for query in samples::each_byte_changed(&trial.query, bytes.clone()) {
+            for asked in [[0, 0, 2], [1, 1, 3], [1, 3, 3], [0, 4, 2]] {
+                let _ = comparison.compare_in_some(&query, asked.into());
+            }
         }
     }
-    comparison.report("the example with a byte changed");
+    comparison.report("the example and one with both directions, with a byte changed");
     assert!(comparison.has(&[1, 2, 3, 4, 5, 6, HANDLE, SPACE], 0));
+    assert!(comparison
+        .directions
+        .descending_with(&[0, 1, 2, 3, 4, 5, 6], 0));
     assert!(comparison.shown > 50 && comparison.none > 50);
 }
 
@@ -325,6 +340,7 @@ fn every_byte_as_a_handle() {
 fn none_exactly_where_a_table_says_held() {
     for round in 0..rounds() {
         let mut random = Random::new(1000 * round + 9);
+        let mut directions = Directions::default();
         let mut held_and_not = [0; 2];
         let (mut tables, mut without) = (0, 0);
         for _ in 0..5000 {
@@ -336,6 +352,7 @@ fn none_exactly_where_a_table_says_held() {
                 Err(STATES) => None,
                 Err(_) => continue,
             };
+            directions.count(&bytes);
             let query = Query::read(&bytes).expect("only its rows are refused");
             let choice = random.below(1 << query.sets);
             let chosen = query.chosen(choice);
@@ -365,6 +382,8 @@ fn none_exactly_where_a_table_says_held() {
             "asks of {tables} tables and of {without} queries without one: {held} held and \
              none, {not_held} not held and two rows"
         );
+        println!("    queries {directions}");
+        assert!(directions.are_mixed());
         assert!(tables > 3000 && without > 50);
         assert!(held > 10_000 && not_held > 10_000);
     }

@@ -254,13 +254,16 @@ fn each_changed<'a>(words: [&'a str; 3], other: &'a str) -> [[&'a str; 3]; 3] {
 }
 
 /// Bytes that reading refuses as queries, each with its number.
-fn refused_queries() -> [(Vec<u8>, u8); 4] {
+fn refused_queries() -> [(Vec<u8>, u8); 7] {
     let named = |name| trials::named(name).query;
     [
         (vec![], 1),
         (named("thirteen_columns"), 2),
+        (named("unused_byte_128"), 3),
         (named("column_n"), 4),
-        (named("repeated_column"), 5),
+        (named("descending_in_a_dependency"), 4),
+        (named("column_in_both_directions"), 5),
+        (named("equal_descending_orders"), 6),
     ]
 }
 
@@ -274,6 +277,8 @@ fn all_that_is_asked_of_some_queries() {
         "two_fixes_either_way",
         "equal_column_goes",
         "running_query",
+        "equal_takes_the_direction",
+        "trip_reports",
     ] {
         let query = trials::named(name).query;
         let read = Query::read(&query).expect("the trial's query is read");

@@ -3,6 +3,7 @@
 
 use std::ops::RangeInclusive;
 
+use differential::directions::Directions;
 use differential::lent::Lent;
 use differential::tally::Tally;
 use differential::{codes, proved};
@@ -17,6 +18,7 @@ const ITEMS: RangeInclusive<u8> = 0..=16;
 /// A comparison of queries, and what was compared so far.
 struct Comparison {
     random: Random,
+    directions: Directions,
     checks: Tally,
     orders: Tally,
     dependencies: Tally,
@@ -26,6 +28,7 @@ impl Comparison {
     fn new(seed: u64) -> Self {
         Self {
             random: Random::new(seed),
+            directions: Directions::default(),
             checks: Tally::default(),
             orders: Tally::default(),
             dependencies: Tally::default(),
@@ -46,6 +49,7 @@ impl Comparison {
         let expected = codes::answer(read.as_ref().map(|_| 0).map_err(|&refusal| refusal));
         assert_eq!(check, expected, "check of query {query:?}");
         self.checks.count(check);
+        self.directions.count(query);
         for i in items {
             let order = proved::query_order(lent.bytes(), i);
             assert_eq!(order, order_of(&read, i), "order {i} of query {query:?}");
@@ -61,6 +65,7 @@ impl Comparison {
     /// Says what was compared.
     fn report(&self, what: &str) {
         println!("{what}: {}", self.checks);
+        println!("    {}", self.directions);
         println!("    orders: {}", self.orders);
         println!("    dependencies: {}", self.dependencies);
     }
@@ -100,6 +105,7 @@ fn queries_that_are_read() {
     }
     comparison.report("queries that are read");
     assert_eq!(comparison.checks.with(0), 8001);
+    assert!(comparison.directions.are_mixed());
 }
 
 #[test]
@@ -116,6 +122,10 @@ fn damaged_queries() {
     }
     comparison.report("damaged queries");
     assert!((0..=5).all(|refusal| comparison.checks.with(refusal) > 500));
+    assert!(comparison.directions.are_mixed());
+    assert!(comparison
+        .directions
+        .descending_with(&[0, 1, 2, 3, 4, 5], 300));
 }
 
 #[test]
@@ -127,16 +137,33 @@ fn queries_with_equal_orders() {
     }
     comparison.report("queries with equal orders");
     assert!(comparison.checks.with(6) > 1500);
+    assert!(comparison.directions.descending_with(&[6], 1000));
+}
+
+#[test]
+fn queries_with_orders_that_differ_in_one_direction() {
+    let mut comparison = Comparison::new(9);
+    for _ in 0..2000 {
+        let query = samples::with_turned_orders(&mut comparison.random);
+        comparison.compare(&query.write());
+    }
+    comparison.report("queries with orders that differ in one direction");
+    assert!(comparison.directions.descending_with(&[0], 1000));
 }
 
 #[test]
 fn every_byte_of_the_example_changed() {
     let mut comparison = Comparison::new(4);
-    for query in samples::each_byte_changed(&trials::example().query, 0..=255) {
-        comparison.compare(&query);
+    for trial in [trials::example(), trials::named("both_directions")] {
+        for query in samples::each_byte_changed(&trial.query, 0..=255) {
+            comparison.compare(&query);
+        }
     }
-    comparison.report("the example query with a byte changed");
+    comparison.report("the example query and one with both directions, with a byte changed");
     assert!((0..=6).all(|refusal| comparison.checks.with(refusal) > 0));
+    assert!(comparison
+        .directions
+        .descending_with(&[0, 1, 2, 3, 4, 5, 6], 0));
 }
 
 #[test]
@@ -164,6 +191,7 @@ fn queries_with_random_items() {
     assert!([0, 3, 4, 5]
         .iter()
         .all(|&refusal| comparison.checks.with(refusal) > 500));
+    assert!(comparison.directions.descending_with(&[0, 3, 4, 5], 300));
 }
 
 #[test]

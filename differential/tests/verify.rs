@@ -4,12 +4,14 @@
 //! made is what comes out. Accepted tables answer lists of lookups as the plain
 //! model does, have at least as many rows as the query's own, and merge into it.
 
+use differential::directions::Directions;
 use differential::lent::Lent;
 use differential::tally::Tally;
 use differential::{codes, proved, rounds, Library, SCRATCH_LENGTHS};
 use reference::builder::table_of;
 use reference::lookups::{model_answers, table_answers, Answer};
 use reference::merging::merged;
+use reference::query::{order, Order, DESCENDING};
 use reference::random::Random;
 use reference::refusal::ORDERINGS;
 use reference::samples::{self, Kind, Shape, Supplied};
@@ -19,6 +21,7 @@ use reference::{buffers, trials, Query};
 /// A comparison of trials, and what was compared so far.
 struct Comparison {
     random: Random,
+    directions: Directions,
     verified: Tally,
     by_kind: [Tally; Kind::ALL.len()],
     answers: usize,
@@ -28,6 +31,7 @@ impl Comparison {
     fn new(seed: u64) -> Self {
         Self {
             random: Random::new(seed),
+            directions: Directions::default(),
             verified: Tally::default(),
             by_kind: Default::default(),
             answers: 0,
@@ -56,6 +60,7 @@ impl Comparison {
         assert!(table.is_unchanged(), "written to the table: {case}");
         assert!(scratch.is_now(&expected_scratch), "other scratch: {case}");
         self.verified.count(code);
+        self.directions.count(query.bytes());
         expected
     }
 
@@ -83,6 +88,8 @@ impl Comparison {
     /// model does.
     fn compare_kinds(&mut self, query: &Query, own: &Table) {
         let (bytes, not_refused) = (query.write(), Ok(own.clone()));
+        let lookups = samples::lookups(&mut self.random, query, 60);
+        let expected = model_answers(query, &lookups);
         for kind in Kind::ALL {
             let Supplied { table, known } = samples::supplied(&mut self.random, kind, query, own);
             let verified = self.compare_in_some(&bytes, &not_refused, &table);
@@ -96,9 +103,7 @@ impl Comparison {
                     "{table:?} {query:?}"
                 );
                 assert_eq!(merged(&accepted), *own, "{table:?} {query:?}");
-                let lookups = samples::lookups(&mut self.random, query, 30);
                 let given = table_answers::<Library>(&table, &lookups);
-                let expected = model_answers(query, &lookups);
                 assert_eq!(given, expected, "{lookups:?} {table:?} {query:?}");
                 let asks = given
                     .iter()
@@ -111,6 +116,7 @@ impl Comparison {
     /// Says what was compared.
     fn report(&self, what: &str) {
         println!("{what}: {} trials: {}", self.verified.all(), self.verified);
+        println!("    for queries {}", self.directions);
     }
 }
 
@@ -149,7 +155,7 @@ fn tables_of_every_kind_for_small_and_middle_queries() {
         assert!([0, 1, 2, 11, 13]
             .iter()
             .all(|&refusal| damaged.with(refusal) > 30));
-        assert!(comparison.verified.with(12) > 1000);
+        assert!(comparison.verified.with(12) > 1000 && comparison.directions.are_mixed());
     }
 }
 
@@ -173,7 +179,7 @@ fn tables_of_every_kind_for_large_queries() {
         }
         comparison.report("tables of every kind for large queries");
         assert!(comparison.verified.with(0) > 1000);
-        assert!(comparison.verified.with(13) > 400);
+        assert!(comparison.verified.with(13) > 400 && comparison.directions.are_mixed());
     }
 }
 
@@ -193,6 +199,8 @@ fn queries_of_every_kind() {
             .iter()
             .all(|&refusal| comparison.verified.with(refusal) > 10));
         assert_eq!(comparison.verified.with(ORDERINGS), 0);
+        assert!(comparison.directions.are_mixed());
+        assert!(comparison.directions.descending_with(&[1, 3, 4, 5, 6], 10));
     }
 }
 
@@ -237,14 +245,21 @@ fn every_byte_of_the_example_changed() {
         .all(|&refusal| comparison.verified.with(refusal) > 0));
 
     let mut comparison = Comparison::new(6);
-    for query in samples::each_byte_changed(&example.query, 0..=80) {
-        let own = table_of(&query);
-        let _ = comparison.compare_in_some(&query, &own, &example.table);
+    let both_directions = trials::named("both_directions");
+    for trial in [&example, &both_directions] {
+        let bytes = (0..=80).chain(126..=144).chain([254, 255]);
+        for query in samples::each_byte_changed(&trial.query, bytes) {
+            let own = table_of(&query);
+            let _ = comparison.compare_in_some(&query, &own, &trial.table);
+        }
     }
-    comparison.report("the example's query with a byte changed");
+    comparison.report("the queries of the example and of both directions with a byte changed");
     assert!((0..=6)
         .chain([9, 12, 13])
         .all(|refusal| comparison.verified.with(refusal) > 0));
+    assert!(comparison
+        .directions
+        .descending_with(&[0, 1, 2, 3, 4, 5, 6], 0));
 }
 
 #[test]
@@ -275,10 +290,14 @@ fn table_sizes_at_and_past_their_limits() {
         .all(|&refusal| comparison.verified.with(refusal) > 10));
 }
 
-/// So many different orders of two columns, not among those before the first.
-fn orders(first: u8, count: u8) -> Vec<Vec<u8>> {
+/// So many different orders of two columns, not among those before the first. In every
+/// second one the second column descends.
+fn orders(first: u8, count: u8) -> Vec<Order> {
     (first..first + count)
-        .map(|order| vec![order % 12, (order + 1 + order / 12) % 12])
+        .map(|number| {
+            let second = (number + 1 + number / 12) % 12;
+            order(&[number % 12, second + number % 2 * DESCENDING])
+        })
         .collect()
 }
 

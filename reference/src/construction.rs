@@ -2,7 +2,7 @@
 //! force holds, and the smallest table that answers so.
 
 use crate::merging::merged;
-use crate::query::Query;
+use crate::query::{Entry, Query};
 use crate::settled::InForce;
 use crate::table::{State, Table};
 
@@ -46,7 +46,7 @@ fn under_choice(query: &Query, choice: usize) -> InForce {
 
 /// What a produced order holds under some dependencies, bit i for interesting order
 /// i.
-fn held_word(query: &Query, in_force: &InForce, produced: &[u8]) -> u16 {
+fn held_word(query: &Query, in_force: &InForce, produced: &[Entry]) -> u16 {
     (0..)
         .zip(query.interesting())
         .filter(|(_, order)| in_force.holds(produced, order))

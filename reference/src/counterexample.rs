@@ -8,7 +8,7 @@
 
 use crate::buffers;
 use crate::listing;
-use crate::query::{Dependency, Order, Query};
+use crate::query::{columns_of, Dependency, Order, Query};
 use crate::refusal;
 use crate::rows::{obey_all, stand_in, Row};
 use crate::settled::InForce;
@@ -98,23 +98,29 @@ impl Question {
     /// Two rows made from where the closure test stops: behind the longest beginning
     /// of the order that is held, unless that is the whole order. Both rows are 0 in
     /// the columns that this beginning settles. In the class of the entry behind it the
-    /// first row is larger, and in all other columns the second.
+    /// second row comes first by that entry's direction. In all other columns the first
+    /// row does, by that of the produced order's first entry that is not settled, or
+    /// ascending where there is none.
     pub fn made(&self) -> Option<[Row; 2]> {
         let test = self.closure_test();
         let beginnings = (0..=self.order.len()).rev();
         let mut held = beginnings.map(|length| &self.order[..length]);
         let held = held.find(|beginning| test.holds(&self.produced, beginning))?;
         let behind = self.order.get(held.len())?;
-        let (settled, class) = (test.settled_by(held), test.class(*behind));
-        let row = |in_class: i64| {
+        let settled = test.settled_by(&columns_of(held));
+        let class = test.class(behind.column);
+        let mut produced = self.produced.iter();
+        let left = produced.find(|entry| !settled.contains(&entry.column));
+        let elsewhere_descends = left.is_some_and(|entry| entry.descends);
+        let row = |is_first: bool| {
             let value = |column: u8| match (settled.contains(&column), class.contains(&column)) {
                 (true, _) => 0,
-                (false, true) => in_class,
-                (false, false) => 1 - in_class,
+                (false, true) => i64::from(is_first != behind.descends),
+                (false, false) => i64::from(is_first == elsewhere_descends),
             };
             (0..self.columns).map(value).collect()
         };
-        Some([row(1), row(0)])
+        Some([row(true), row(false)])
     }
 
     /// Whether two rows show that the order is not held, or what is wrong with them.

@@ -1,18 +1,19 @@
 //! Derivation of orderings of any length: single steps, and steps repeated until
 //! nothing is added.
 //!
-//! Of six columns there are 1,957 orderings and of twelve more than a thousand
-//! million, so this is for few columns.
+//! Each column may stand in either direction. So of five columns there are 6,331
+//! orderings and of six 75,973; this is for few columns.
 
 use std::collections::HashSet;
 
-use crate::query::{Dependency, Rule};
+use crate::query::{Dependency, Entry, Rule};
 
-/// A derived ordering: different columns, most significant first, any length.
-pub type Ordering = Vec<u8>;
+/// A derived ordering: entries of different columns, most significant first, any
+/// length.
+pub type Ordering = Vec<Entry>;
 
 /// The start from a produced order: that order and all its prefixes.
-pub fn start(order: &[u8]) -> HashSet<Ordering> {
+pub fn start(order: &[Entry]) -> HashSet<Ordering> {
     (0..=order.len())
         .map(|length| order[..length].to_vec())
         .collect()
@@ -20,12 +21,22 @@ pub fn start(order: &[u8]) -> HashSet<Ordering> {
 
 /// All results of one step from an ordering under some dependencies.
 pub fn steps<'a>(
-    ordering: &[u8],
+    ordering: &[Entry],
     dependencies: impl IntoIterator<Item = &'a Dependency>,
 ) -> HashSet<Ordering> {
-    let mut results = HashSet::new();
+    results_of_step(ordering, dependencies)
+        .into_iter()
+        .collect()
+}
+
+/// All results of one step, some of them perhaps twice.
+fn results_of_step<'a>(
+    ordering: &[Entry],
+    dependencies: impl IntoIterator<Item = &'a Dependency>,
+) -> Vec<Ordering> {
+    let mut results = Vec::new();
     if let Some((_, prefix)) = ordering.split_last() {
-        results.insert(prefix.to_vec());
+        results.push(prefix.to_vec());
     }
     for dependency in dependencies {
         match &dependency.rule {
@@ -48,8 +59,9 @@ pub fn closure<'a>(
     let mut reached: HashSet<Ordering> = from.into_iter().collect();
     let mut waiting: Vec<Ordering> = reached.iter().cloned().collect();
     while let Some(ordering) = waiting.pop() {
-        for result in steps(&ordering, dependencies.clone()) {
-            if reached.insert(result.clone()) {
+        for result in results_of_step(&ordering, dependencies.clone()) {
+            if !reached.contains(&result) {
+                reached.insert(result.clone());
                 waiting.push(result);
             }
         }
@@ -58,9 +70,9 @@ pub fn closure<'a>(
 }
 
 /// A fix whose left columns all occur. Where the right column doesn't, it goes in at
-/// any place behind all left columns, the end included. Where it stands behind all
-/// left columns, it is taken out.
-fn use_fix(ordering: &[u8], left: &[u8], right: u8, results: &mut HashSet<Ordering>) {
+/// any place behind all left columns, the end included, in either direction. Where it
+/// stands behind all left columns, it is taken out.
+fn use_fix(ordering: &[Entry], left: &[u8], right: u8, results: &mut Vec<Ordering>) {
     let behind_left = left.iter().try_fold(0, |behind, column| {
         place_of(ordering, *column).map(|place| behind.max(place + 1))
     });
@@ -68,48 +80,61 @@ fn use_fix(ordering: &[u8], left: &[u8], right: u8, results: &mut HashSet<Orderi
         return;
     };
     match place_of(ordering, right) {
-        None => {
-            results.extend((first..=ordering.len()).map(|place| inserted(ordering, place, right)));
-        }
+        None => insert_from(ordering, first, right, results),
         Some(place) if first <= place => {
-            results.insert(removed(ordering, place));
+            results.push(removed(ordering, place));
         }
         Some(_) => {}
     }
 }
 
 /// An equal, one way round. Where the first column occurs and the other one doesn't,
-/// the other one goes in at any place behind the first, or directly before it, or in
-/// its stead. Where the other one stands behind the first, it is taken out.
-fn use_equal(ordering: &[u8], first: u8, other: u8, results: &mut HashSet<Ordering>) {
+/// the other one goes in at any place behind the first, in either direction, or
+/// directly before it or in its stead, in the first one's direction. Where the other
+/// one stands behind the first, it is taken out.
+fn use_equal(ordering: &[Entry], first: u8, other: u8, results: &mut Vec<Ordering>) {
     let Some(place) = place_of(ordering, first) else {
         return;
     };
     match place_of(ordering, other) {
         None => {
-            results.extend((place..=ordering.len()).map(|at| inserted(ordering, at, other)));
+            insert_from(ordering, place + 1, other, results);
+            let in_its_direction = Entry {
+                column: other,
+                ..ordering[place]
+            };
+            results.push(inserted(ordering, place, in_its_direction));
             let mut replaced = ordering.to_vec();
-            replaced[place] = other;
-            results.insert(replaced);
+            replaced[place] = in_its_direction;
+            results.push(replaced);
         }
         Some(behind) if place < behind => {
-            results.insert(removed(ordering, behind));
+            results.push(removed(ordering, behind));
         }
         Some(_) => {}
     }
 }
 
-fn place_of(ordering: &[u8], column: u8) -> Option<usize> {
-    ordering.iter().position(|&entry| entry == column)
+/// Where a column stands, in whichever direction.
+fn place_of(ordering: &[Entry], column: u8) -> Option<usize> {
+    ordering.iter().position(|entry| entry.column == column)
 }
 
-fn inserted(ordering: &[u8], place: usize, column: u8) -> Ordering {
+/// A column goes in at each place from the first one on, in either direction.
+fn insert_from(ordering: &[Entry], first: usize, column: u8, results: &mut Vec<Ordering>) {
+    for place in first..=ordering.len() {
+        let entries = Entry::either(column);
+        results.extend(entries.map(|entry| inserted(ordering, place, entry)));
+    }
+}
+
+fn inserted(ordering: &[Entry], place: usize, entry: Entry) -> Ordering {
     let mut longer = ordering.to_vec();
-    longer.insert(place, column);
+    longer.insert(place, entry);
     longer
 }
 
-fn removed(ordering: &[u8], place: usize) -> Ordering {
+fn removed(ordering: &[Entry], place: usize) -> Ordering {
     let mut shorter = ordering.to_vec();
     shorter.remove(place);
     shorter

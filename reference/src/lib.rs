@@ -2,7 +2,7 @@
 //!
 //! It follows documents 01 and 02 in the plainest way that still runs quickly, so
 //! that another implementation can be compared with it: orderings are lists of
-//! columns kept in hash sets, columns are kept in sets, and nothing is shared with
+//! entries kept in hash sets, columns are kept in sets, and nothing is shared with
 //! any other implementation.
 //!
 //! The way from a query to an answer is: [`query`] reads the description, [`settled`]
@@ -45,4 +45,4 @@ pub mod verification;
 
 pub use implementation::{Implementation, Reference};
 pub use listing::listing;
-pub use query::{Dependency, Query, Rule};
+pub use query::{Dependency, Entry, Query, Rule};

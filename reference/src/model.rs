@@ -15,7 +15,7 @@ use crate::refusal;
 use crate::settled::InForce;
 
 /// The most columns of a query of which orderings are derived.
-const FEW_COLUMNS: u8 = 6;
+const FEW_COLUMNS: u8 = 5;
 
 /// The plain model: a start order, a list of sets and what is known of them.
 #[derive(Clone, Debug)]

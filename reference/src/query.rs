@@ -1,11 +1,65 @@
 //! The query description: what it says, and its bytes.
 
 use std::collections::HashSet;
+use std::fmt;
 
 use crate::refusal;
 
-/// An order: 0 to 4 different columns, most significant first.
-pub type Order = Vec<u8>;
+/// What is added to a column in an order's bytes where it descends.
+pub const DESCENDING: u8 = 128;
+
+/// An entry of an order.
+#[derive(Clone, Copy, PartialEq, Eq, Hash)]
+pub struct Entry {
+    /// The column.
+    pub column: u8,
+    /// Whether larger values come first.
+    pub descends: bool,
+}
+
+impl Entry {
+    /// The entries of a column: ascending, then descending.
+    pub fn either(column: u8) -> [Self; 2] {
+        [false, true].map(|descends| Self { column, descends })
+    }
+
+    /// The byte that stands for it in an order.
+    pub fn byte(self) -> u8 {
+        match self.descends {
+            true => self.column + DESCENDING,
+            false => self.column,
+        }
+    }
+}
+
+impl From<u8> for Entry {
+    fn from(byte: u8) -> Self {
+        Self {
+            column: byte % DESCENDING,
+            descends: byte >= DESCENDING,
+        }
+    }
+}
+
+impl fmt::Debug for Entry {
+    fn fmt(&self, f: &mut fmt::Formatter<'_>) -> fmt::Result {
+        let direction = if self.descends { " desc" } else { "" };
+        write!(f, "{}{direction}", self.column)
+    }
+}
+
+/// An order: 0 to 4 entries of different columns, most significant first.
+pub type Order = Vec<Entry>;
+
+/// The order that these bytes stand for.
+pub fn order(bytes: &[u8]) -> Order {
+    bytes.iter().copied().map(Entry::from).collect()
+}
+
+/// The columns of an order's entries.
+pub fn columns_of(order: &[Entry]) -> Vec<u8> {
+    order.iter().map(|entry| entry.column).collect()
+}
 
 /// A set of columns, bit c for column c.
 pub type ColumnSet = u16;
@@ -152,9 +206,10 @@ impl Query {
     /// can be made too; of an order longer than four columns the four first
     /// are written.
     pub fn write(&self) -> Vec<u8> {
-        let orders = self
-            .interesting()
-            .map(|order| (order.len() as u8, order.clone()));
+        let orders = self.interesting().map(|order| {
+            let bytes = order.iter().map(|entry| entry.byte());
+            (order.len() as u8, bytes.collect())
+        });
         let dependencies = self.dependencies.iter().map(|Dependency { set, rule }| {
             let head = 16 * rule.kind() + set;
             (head, rule.columns())
@@ -169,9 +224,9 @@ impl Query {
             self.dependencies.len() as u8,
         ];
         bytes.extend(heads);
-        for mut columns in fields {
-            columns.resize(ITEM_BYTES, UNUSED);
-            bytes.extend(columns);
+        for mut used in fields {
+            used.resize(ITEM_BYTES, UNUSED);
+            bytes.extend(used);
         }
         bytes
     }
@@ -179,6 +234,11 @@ impl Query {
     /// The interesting orders: the produced ones, then the tested ones.
     pub fn interesting(&self) -> impl Iterator<Item = &Order> {
         self.produced.iter().chain(&self.tested)
+    }
+
+    /// Whether an entry of an order descends.
+    pub fn descends(&self) -> bool {
+        self.interesting().flatten().any(|entry| entry.descends)
     }
 
     /// The sets of a choice, a number whose bit i is set i.
@@ -209,7 +269,9 @@ fn read_order(head: u8, fields: &[u8], columns: u8) -> Result<Order, u8> {
     if length > ITEM_BYTES {
         return Err(refusal::ITEM);
     }
-    read_columns(length, fields, columns)
+    let order = order(used_bytes(length, fields)?);
+    check_columns(&columns_of(&order), columns)?;
+    Ok(order)
 }
 
 fn read_dependency(head: u8, fields: &[u8], columns: u8, sets: u8) -> Result<Dependency, u8> {
@@ -222,25 +284,39 @@ fn read_dependency(head: u8, fields: &[u8], columns: u8, sets: u8) -> Result<Dep
         Rule::Equal(pair[0], pair[1])
     } else {
         let lefts = usize::from(kind);
-        let mut left = read_columns(lefts + 1, fields, columns)?;
-        let right = left.remove(lefts);
-        Rule::Fix { left, right }
+        let named = read_columns(lefts + 1, fields, columns)?;
+        Rule::Fix {
+            left: named[..lefts].to_vec(),
+            right: named[lefts],
+        }
     };
     Ok(Dependency { set, rule })
 }
 
-/// Reads the columns at the front of an item's bytes, after its head's own
-/// part of check 3: the rest of check 3, then 4, then 5.
-fn read_columns(used: usize, fields: &[u8], columns: u8) -> Result<Vec<u8>, u8> {
+/// Reads the columns at the front of a dependency's bytes, which have no direction.
+fn read_columns(used: usize, fields: &[u8], columns: u8) -> Result<&[u8], u8> {
+    let named = used_bytes(used, fields)?;
+    check_columns(named, columns)?;
+    Ok(named)
+}
+
+/// The bytes at the front of an item that are used, after its head's own part of
+/// check 3: the rest of check 3.
+fn used_bytes(used: usize, fields: &[u8]) -> Result<&[u8], u8> {
     let (used, unused) = fields.split_at(used);
-    if unused.iter().any(|&byte| byte != UNUSED) {
-        return Err(refusal::ITEM);
+    match unused.iter().all(|&byte| byte == UNUSED) {
+        true => Ok(used),
+        false => Err(refusal::ITEM),
     }
-    if used.iter().any(|&column| column >= columns) {
+}
+
+/// Checks the columns that an item names: 4, then 5.
+fn check_columns(named: &[u8], columns: u8) -> Result<(), u8> {
+    if named.iter().any(|&column| column >= columns) {
         return Err(refusal::COLUMN);
     }
-    if column_set(used).count_ones() as usize != used.len() {
+    if column_set(named).count_ones() as usize != named.len() {
         return Err(refusal::REPEAT);
     }
-    Ok(used.to_vec())
+    Ok(())
 }

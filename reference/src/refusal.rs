@@ -7,11 +7,12 @@ pub const SIZE: u8 = 2;
 /// An order length above 4, a kind above 4, a set not below S, or an unused
 /// byte that is not 255.
 pub const ITEM: u8 = 3;
-/// A column not below N.
+/// A column not below N. In a dependency 128 and more is none, as dependencies have
+/// no direction.
 pub const COLUMN: u8 = 4;
-/// A column twice in one order or one dependency.
+/// A column twice in one order, in whichever directions, or in one dependency.
 pub const REPEAT: u8 = 5;
-/// Two equal interesting orders.
+/// Two equal interesting orders; ones that differ in a direction are not equal.
 pub const TWIN: u8 = 6;
 /// Never given: the number and its word stay in the list.
 pub const ORDERINGS: u8 = 7;

@@ -1,13 +1,13 @@
 //! What orders and dependencies mean for rows.
 
-use crate::query::{Dependency, Rule};
+use crate::query::{Dependency, Entry, Rule};
 
 /// A row: one whole number per column.
 pub type Row = Vec<i64>;
 
 /// Whether rows stand in an order: no row compares below an earlier one, the
-/// order's columns taken in turn and ascending.
-pub fn stand_in(rows: &[Row], order: &[u8]) -> bool {
+/// order's columns taken in turn and each in its direction.
+pub fn stand_in(rows: &[Row], order: &[Entry]) -> bool {
     rows.iter().enumerate().all(|(place, later)| {
         rows[..place]
             .iter()
@@ -37,15 +37,22 @@ pub fn obey_all<'d>(rows: &[Row], dependencies: impl IntoIterator<Item = &'d Dep
     dependencies.all(|dependency| obey(rows, &dependency.rule))
 }
 
-/// A row's values in an order's columns, which compare as rows do in the order.
-pub fn sort_key(row: &Row, order: &[u8]) -> Vec<i64> {
-    order
-        .iter()
-        .map(|&column| row[usize::from(column)])
-        .collect()
+/// A row's values in an order's columns, which compare as rows do in the order. Where
+/// one descends, its bits are turned over, and with them the order of whole numbers.
+pub fn sort_key(row: &Row, order: &[Entry]) -> Vec<i64> {
+    let keys = order.iter().map(|entry| {
+        let value = row[usize::from(entry.column)];
+        match entry.descends {
+            true => !value,
+            false => value,
+        }
+    });
+    keys.collect()
 }
 
 /// Whether two rows are alike in all of some columns.
 pub fn alike(one: &Row, other: &Row, columns: &[u8]) -> bool {
-    sort_key(one, columns) == sort_key(other, columns)
+    columns
+        .iter()
+        .all(|&column| one[usize::from(column)] == other[usize::from(column)])
 }

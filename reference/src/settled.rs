@@ -7,14 +7,15 @@
 //! class, and are settled together. So each column is replaced by the least one of
 //! its class, and then there are only fixes left to follow.
 //!
-//! An order is held when its entries, but for those that the entries before settle,
-//! are met one after the other in the produced order, an entry of their class each.
-//! Entries of the produced order that are settled by what is met already are passed
-//! over, and no others.
+//! An order is held when its entries, but for those whose columns the entries before
+//! settle, are met one after the other in the produced order, an entry of their class
+//! and of their direction each. Entries of the produced order whose columns are settled
+//! by what is met already are passed over, and no others. The direction of an entry
+//! that is passed over counts for nothing.
 
 use std::collections::BTreeSet;
 
-use crate::query::{Dependency, Rule};
+use crate::query::{Dependency, Entry, Rule};
 
 /// The dependencies in force, over classes of equal columns. A class goes by the
 /// least of its columns.
@@ -58,18 +59,18 @@ impl InForce {
 
     /// Whether rows that stand in a produced order and obey these dependencies stand in
     /// this order too.
-    pub fn holds(&self, produced: &[u8], order: &[u8]) -> bool {
+    pub fn holds(&self, produced: &[Entry], order: &[Entry]) -> bool {
         let mut settled = self.constants.clone();
-        let mut produced = self.classes(produced);
-        for class in self.classes(order) {
-            if settled.contains(&class) {
+        let mut produced = self.of_classes(produced);
+        for entry in self.of_classes(order) {
+            if settled.contains(&entry.column) {
                 continue;
             }
-            let met = produced.find(|class| !settled.contains(class));
-            if met != Some(class) {
+            let met = produced.find(|entry| !settled.contains(&entry.column));
+            if met != Some(entry) {
                 return false;
             }
-            settled.insert(class);
+            settled.insert(entry.column);
             settled = self.closed(settled);
         }
         true
@@ -77,7 +78,10 @@ impl InForce {
 
     /// The columns that some columns settle.
     pub fn settled_by(&self, columns: &[u8]) -> BTreeSet<u8> {
-        let settled = self.closed(self.classes(columns).collect());
+        let classes = columns
+            .iter()
+            .map(|column| self.class_of[usize::from(*column)]);
+        let settled = self.closed(classes.collect());
         let all = 0..self.class_of.len() as u8;
         let is_settled = |column: &u8| settled.contains(&self.class_of[usize::from(*column)]);
         all.filter(is_settled).collect()
@@ -91,11 +95,12 @@ impl InForce {
             .collect()
     }
 
-    /// The classes of some columns, in turn.
-    fn classes<'c>(&'c self, columns: &'c [u8]) -> impl Iterator<Item = u8> + 'c {
-        columns
-            .iter()
-            .map(|&column| self.class_of[usize::from(column)])
+    /// The entries of an order, each with its column's class in the column's stead.
+    fn of_classes<'o>(&'o self, order: &'o [Entry]) -> impl Iterator<Item = Entry> + 'o {
+        order.iter().map(|entry| Entry {
+            column: self.class_of[usize::from(entry.column)],
+            ..*entry
+        })
     }
 
     /// Some classes, and those that they settle.

@@ -5,6 +5,7 @@ use reference::builder::build_table;
 use reference::derivation::start;
 use reference::lookups::{model_answers, table_answers, Answer, Lookup};
 use reference::model::Model;
+use reference::query::order;
 use reference::random::Random;
 use reference::rows::{obey_all, stand_in};
 use reference::samples::{self, Shape};
@@ -135,8 +136,8 @@ fn the_same_sets_in_any_order_and_however_often_give_the_same_answers_and_row() 
 fn refused_lookups_leave_the_state_and_the_model_as_they_were() {
     let query = Query {
         columns: 3,
-        produced: vec![vec![0], vec![2]],
-        tested: vec![vec![0, 1]],
+        produced: vec![order(&[0]), order(&[2])],
+        tested: vec![order(&[0, 1])],
         sets: 1,
         dependencies: vec![Dependency::fix(0, &[0], 1)],
     };
@@ -177,7 +178,7 @@ fn refused_lookups_leave_the_state_and_the_model_as_they_were() {
 fn the_model_keeps_its_start_order_and_list_of_sets() {
     let query = Query {
         columns: 2,
-        produced: vec![vec![0], vec![1, 0]],
+        produced: vec![order(&[0]), order(&[1, 128])],
         tested: vec![],
         sets: 2,
         dependencies: vec![],
@@ -192,11 +193,11 @@ fn the_model_keeps_its_start_order_and_list_of_sets() {
     }
     assert_eq!(model.take(2), Err(10));
     assert_eq!(model.sets(), [1, 1, 0]);
-    assert_eq!(model.start_order(), Some(&vec![0]));
+    assert_eq!(model.start_order(), Some(&order(&[0])));
     model.enter(1).expect("produced");
     assert_eq!(model.sets(), []);
-    assert_eq!(model.start_order(), Some(&vec![1, 0]));
-    assert_eq!(model.orderings(), Some(&start(&[1, 0])));
+    assert_eq!(model.start_order(), Some(&order(&[1, 128])));
+    assert_eq!(model.orderings(), Some(&start(&order(&[1, 128]))));
 }
 
 #[test]

@@ -6,12 +6,14 @@ use std::collections::HashSet;
 use reference::builder::{build_table, table_of};
 use reference::construction::{of_pairs, smallest};
 use reference::derivation::{closure, start};
+use reference::query::{column_set, order, ColumnSet};
 use reference::random::Random;
 use reference::refusal::{ORDERINGS, STATES};
 use reference::samples::{
     self, chain_of_equals, constants, joined_starts, longest_table, most_orders,
     near_the_most_rows, own_column_per_set, Shape,
 };
+use reference::settled::InForce;
 use reference::{listing, table, trials, Dependency, Query};
 
 /// Random small queries.
@@ -83,6 +85,26 @@ fn a_set_in_force_taken_again_changes_no_pair_and_another_does() {
     }
 }
 
+#[test]
+fn columns_turned_round_together_with_those_that_equal_them_keep_the_table() {
+    let mut ascending = 0;
+    for query in queries(8, 1000) {
+        let table = build_table(&query.write());
+        let all = samples::turned(&query, ColumnSet::MAX);
+        assert_eq!(build_table(&all.write()), table, "{query:?}");
+        // The columns of one class under all sets. Under fewer sets they are several.
+        let in_force = InForce::new(query.columns, &query.dependencies);
+        let class: Vec<u8> = in_force.class(0).into_iter().collect();
+        let one_class = samples::turned(&query, column_set(&class));
+        assert_eq!(build_table(&one_class.write()), table, "{query:?}");
+        ascending += usize::from(!query.descends());
+    }
+    assert!(
+        ascending > 200,
+        "only {ascending} queries have no descending column"
+    );
+}
+
 /// How many pairs and rows a query has, and its refusal.
 fn counted(query: &Query) -> (usize, usize, Option<u8>) {
     let refusal = build_table(&query.write()).err();
@@ -113,7 +135,7 @@ fn pairs_may_be_many_where_rows_are_few() {
         assert_eq!(counted(&joined_starts(sets)), (2 << sets, 3, None));
         let empty = Query {
             columns: 1,
-            produced: vec![vec![], vec![0]],
+            produced: vec![vec![], order(&[0])],
             tested: vec![],
             sets,
             dependencies: vec![],

@@ -2,14 +2,17 @@
 //! derivation does not give the order, and what is held is true of rows. A program that
 //! gives other rows, or refuses otherwise, is seen.
 
+use std::collections::HashMap;
+
 use reference::builder::build_table;
 use reference::counterexample::{self, Asked, Question, Wrong};
 use reference::derivation::{closure, start};
+use reference::query::{order, DESCENDING};
 use reference::random::Random;
 use reference::refusal::SPACE;
 use reference::rows::stand_in;
 use reference::samples::{self, all_asked, rooms, Shape};
-use reference::{trials, Implementation, Query, Reference};
+use reference::{trials, Dependency, Implementation, Query, Reference};
 
 /// A random query, most often of chains.
 fn any_query(random: &mut Random, shape: Shape) -> Query {
@@ -36,10 +39,14 @@ fn two_rows_are_found_exactly_where_the_derivation_does_not_give_the_order() {
         for _ in 0..count {
             let query = any_query(&mut random, shape);
             let orders: Vec<_> = query.interesting().collect();
+            let mut derived = HashMap::new();
             for asked in all_asked(&query) {
-                let sets = query.chosen(asked.sets.into());
-                let produced = &query.produced[usize::from(asked.produced)];
-                let derived = closure(start(produced), query.dependencies_of(&sets));
+                let derived = derived.entry((asked.produced, asked.sets));
+                let derived = derived.or_insert_with(|| {
+                    let sets = query.chosen(asked.sets.into());
+                    let produced = &query.produced[usize::from(asked.produced)];
+                    closure(start(produced), query.dependencies_of(&sets))
+                });
                 let derived = derived.contains(orders[usize::from(asked.order)]);
 
                 let question = question(&query, asked);
@@ -122,11 +129,15 @@ enum Fault {
     SetsForgotten,
     /// The rows stand in any interesting order.
     TestedAsProduced,
+    /// All entries are taken for ascending.
+    DirectionsDropped,
+    /// The entries of the produced order are turned round.
+    ProducedTurnedRound,
 }
 
 impl Fault {
     /// All that there are.
-    const ALL: [Self; 12] = [
+    const ALL: [Self; 14] = [
         Self::AlwaysNone,
         Self::Tie,
         Self::RowsExchanged,
@@ -139,6 +150,8 @@ impl Fault {
         Self::SetsPastS,
         Self::SetsForgotten,
         Self::TestedAsProduced,
+        Self::DirectionsDropped,
+        Self::ProducedTurnedRound,
     ];
 
     /// What the program gives to what is asked of a query.
@@ -152,6 +165,14 @@ impl Fault {
             Self::SetsForgotten => read.dependencies.clear(),
             Self::TestedAsProduced if read.interesting().count() <= 8 => {
                 read.produced.append(&mut read.tested);
+            }
+            Self::DirectionsDropped => {
+                let orders = read.produced.iter_mut().chain(&mut read.tested);
+                orders.flatten().for_each(|entry| entry.descends = false);
+            }
+            Self::ProducedTurnedRound => {
+                let orders = read.produced.iter_mut();
+                orders.flatten().for_each(|entry| entry.descends ^= true);
             }
             _ => {}
         }
@@ -231,6 +252,33 @@ fn wrong_programs_are_seen_on_the_example() {
         assert_eq!(checked, Err(wrong), "{fault:?} {asked:?}");
         let checked = Fault::None.checked(&query, asked, room);
         assert_eq!(checked, Ok(()), "{asked:?}");
+    }
+}
+
+#[test]
+fn wrong_directions_are_seen() {
+    // Produced is (a desc), tested (b), order 1. Set 0 brings a = b.
+    let query = Query {
+        columns: 2,
+        produced: vec![order(&[DESCENDING])],
+        tested: vec![order(&[1])],
+        sets: 1,
+        dependencies: vec![Dependency::equal(0, 0, 1)],
+    };
+    let query = query.write();
+    for (fault, asked, wrong) in [
+        // Its rows go up in a.
+        (Fault::DirectionsDropped, [0, 0, 1], Wrong::Standing),
+        (Fault::ProducedTurnedRound, [0, 0, 1], Wrong::Standing),
+        (Fault::RowsExchanged, [0, 1, 1], Wrong::Standing),
+        // It says held.
+        (Fault::DirectionsDropped, [0, 1, 1], Wrong::Answer),
+        (Fault::ProducedTurnedRound, [0, 1, 1], Wrong::Answer),
+    ] {
+        let asked = Asked::from(asked);
+        let checked = fault.checked(&query, asked, 4);
+        assert_eq!(checked, Err(wrong), "{fault:?} {asked:?}");
+        assert_eq!(Fault::None.checked(&query, asked, 4), Ok(()), "{asked:?}");
     }
 }
 

@@ -248,7 +248,7 @@ fn the_benchmarks_have_the_counts() {
     let table = |name: &str| table_of(&trials::named(name).query).expect("the trial has a table");
     let verified = section(&benchmarks, "Trials of a supplier's table, µs");
     let verified: Vec<_> = rows(verified).collect();
-    assert_eq!(verified.len(), 7);
+    assert_eq!(verified.len(), 8);
     for row in &verified {
         assert_eq!(row[1], table(row[0]).states.len().to_string(), "{row:?}");
     }
@@ -336,7 +336,7 @@ fn each_landing_has_a_short_note() {
     let mut requests = headings
         .iter()
         .filter(|heading| heading.starts_with("Req "));
-    for (number, heading) in (1..).zip(requests.by_ref().take(6)) {
+    for (number, heading) in (1..).zip(requests.by_ref().take(7)) {
         assert!(
             heading.starts_with(&format!("Req 0{number}: ")),
             "{heading}"

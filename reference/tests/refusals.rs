@@ -5,6 +5,7 @@ use std::sync::LazyLock;
 
 use reference::buffers::SCRATCH_BYTES;
 use reference::builder::build_table;
+use reference::query::{order, DESCENDING};
 use reference::random::Random;
 use reference::samples::{self, Shape};
 use reference::{listing, trials, Dependency, Implementation, Query, Reference};
@@ -46,8 +47,8 @@ fn one_dependency(columns: u8, sets: u8, head: u8, fields: [u8; 4]) -> Vec<u8> {
 fn largest() -> Query {
     Query {
         columns: 12,
-        produced: (0..8).map(|column| vec![column]).collect(),
-        tested: (0..8).map(|column| vec![column, 11]).collect(),
+        produced: (0..8).map(|column| order(&[column])).collect(),
+        tested: (0..8).map(|column| order(&[column, 11])).collect(),
         sets: 8,
         dependencies: (0..16)
             .map(|number| Dependency::fix(number % 8, &[], number % 12))
@@ -162,7 +163,7 @@ fn an_unused_byte_other_than_255_gives_3() {
         }
         let heads = (used as u8, (16 * used as u8).wrapping_sub(16));
         for place in used..4 {
-            for byte in [0, 3, 4, 11, 254] {
+            for byte in [0, 3, 4, 11, 127, 128, 131, 132, 254] {
                 let mut spoilt = fields;
                 spoilt[place] = byte;
                 assert_eq!(refusal(&one_order(4, heads.0, spoilt)), Some(3));
@@ -212,6 +213,75 @@ fn a_column_not_below_n_gives_4() {
 }
 
 #[test]
+fn every_byte_of_an_order_is_a_column_in_one_direction_or_gives_4() {
+    for columns in 1..=12 {
+        for byte in 0..=255 {
+            let query = one_order(columns, 1, [byte, 255, 255, 255]);
+            let column = byte % DESCENDING;
+            let expected = (column >= columns).then_some(4);
+            assert_eq!(refusal(&query), expected, "{byte} of {columns}");
+            if let Ok(query) = Query::read(&query) {
+                let entry = query.produced[0][0];
+                let descends = byte >= DESCENDING;
+                assert_eq!((entry.column, entry.descends), (column, descends));
+                assert_eq!((entry.byte(), query.descends()), (byte, descends));
+            }
+        }
+    }
+    // At every place, beside other columns.
+    for place in 0..4 {
+        for byte in 0..=255 {
+            let mut fields = [0, 129, 2, 131];
+            fields[place] = byte;
+            let others = (0..4).filter(|&other| other != place);
+            let expected = match byte % DESCENDING {
+                4.. => Some(4),
+                column if others.into_iter().any(|c| c == column.into()) => Some(5),
+                _ => None,
+            };
+            assert_eq!(refusal(&one_order(4, 4, fields)), expected, "{fields:?}");
+        }
+    }
+}
+
+#[test]
+fn a_byte_of_a_dependency_from_128_on_gives_4() {
+    // Fixes of up to three left columns, and an equal, each with its columns.
+    for (head, used) in [(0, 1), (16, 2), (32, 3), (48, 4), (64, 2)] {
+        let mut fields = [255; 4];
+        fields[..used].copy_from_slice(&[0, 1, 2, 3][..used]);
+        assert_eq!(refusal(&one_dependency(12, 1, head, fields)), None);
+        for place in 0..used {
+            for byte in DESCENDING..=255 {
+                let mut spoilt = fields;
+                spoilt[place] = byte;
+                let query = one_dependency(12, 1, head, spoilt);
+                assert_eq!(refusal(&query), Some(4), "{head} {spoilt:?}");
+            }
+        }
+    }
+}
+
+#[test]
+fn a_column_twice_in_one_order_gives_5_in_whichever_directions() {
+    for first in 0..4 {
+        for second in first + 1..4 {
+            for directions in 0..16 {
+                let descending = |place: usize| (directions >> place & 1) * DESCENDING;
+                let mut fields = [0, 1, 2, 3];
+                fields[second] = fields[first];
+                for (place, field) in fields.iter_mut().enumerate() {
+                    *field += descending(place);
+                }
+                assert_eq!(refusal(&one_order(4, 4, fields)), Some(5), "{fields:?}");
+            }
+        }
+    }
+    let query = one_order(2, 2, [0, DESCENDING, 255, 255]);
+    assert_eq!(refusal(&query), Some(5));
+}
+
+#[test]
 fn a_column_twice_in_one_item_gives_5() {
     for first in 0..4 {
         for second in first + 1..4 {
@@ -236,8 +306,8 @@ fn a_column_twice_in_one_item_gives_5() {
 fn two_equal_interesting_orders_give_6() {
     let query = |produced: &[&[u8]], tested: &[&[u8]]| Query {
         columns: 4,
-        produced: produced.iter().map(|order| order.to_vec()).collect(),
-        tested: tested.iter().map(|order| order.to_vec()).collect(),
+        produced: produced.iter().map(|bytes| order(bytes)).collect(),
+        tested: tested.iter().map(|bytes| order(bytes)).collect(),
         sets: 0,
         dependencies: vec![],
     };
@@ -250,6 +320,14 @@ fn two_equal_interesting_orders_give_6() {
     );
     assert_eq!(refusal_of(&[&[]], &[&[]]), Some(6));
     assert_eq!(refusal_of(&[&[0, 1], &[0]], &[&[1, 0], &[]]), None);
+    // Orders that differ in a direction are not equal.
+    assert_eq!(refusal_of(&[&[0], &[128]], &[]), None);
+    assert_eq!(
+        refusal_of(&[&[0, 1]], &[&[128, 1], &[0, 129], &[128, 129]]),
+        None
+    );
+    assert_eq!(refusal_of(&[&[0], &[128]], &[&[0, 1], &[128]]), Some(6));
+    assert_eq!(refusal_of(&[&[2], &[0, 129, 2]], &[&[0, 129, 2]]), Some(6));
 }
 
 #[test]
@@ -257,7 +335,7 @@ fn equal_dependencies_are_not_refused() {
     let twice = Dependency::fix(0, &[0], 1);
     let query = Query {
         columns: 2,
-        produced: vec![vec![0]],
+        produced: vec![order(&[0])],
         tested: vec![],
         sets: 2,
         dependencies: vec![twice.clone(), twice, Dependency::fix(1, &[0], 1)],
@@ -275,6 +353,9 @@ fn the_first_failing_check_gives_the_number() {
     // Within one item all of 3, then all of 4, then 5.
     assert_eq!(refusal(&one_order(4, 2, [9, 9, 255, 0])), Some(3));
     assert_eq!(refusal(&one_order(4, 3, [1, 1, 4, 255])), Some(4));
+    assert_eq!(refusal(&one_order(4, 2, [137, 137, 255, 128])), Some(3));
+    assert_eq!(refusal(&one_order(4, 3, [1, 129, 132, 255])), Some(4));
+    assert_eq!(refusal(&one_order(4, 3, [1, 129, 255, 255])), Some(4));
     assert_eq!(refusal(&one_dependency(4, 1, 80, [9, 9, 0, 0])), Some(3));
     assert_eq!(
         refusal(&one_dependency(4, 1, 65, [9, 9, 255, 255])),
@@ -386,7 +467,7 @@ fn too_many_rows() -> Vec<u8> {
 fn refused_on_reading() -> Vec<(Vec<u8>, u8)> {
     let twins = Query {
         columns: 1,
-        produced: vec![vec![0], vec![0]],
+        produced: vec![order(&[0]), order(&[0])],
         tested: vec![],
         sets: 0,
         dependencies: vec![],

@@ -4,16 +4,22 @@
 use std::collections::{BTreeSet, HashSet};
 
 use reference::derivation::{closure, start, steps, Ordering};
+use reference::query::{columns_of, order, DESCENDING};
 use reference::random::Random;
 use reference::samples::{self, all_orderings, Shape};
 use reference::settled::InForce;
-use reference::{trials, Dependency, Query, Rule};
+use reference::{trials, Dependency, Entry, Query, Rule};
 
-/// As many columns as orderings are derived of.
+/// Few enough columns for all orderings of many queries.
+const FOUR_COLUMNS: Shape = Shape {
+    columns: (1, 4),
+    ..Shape::CHAINS
+};
+/// More columns than orderings are derived of elsewhere.
 const SIX_COLUMNS: Shape = Shape {
     columns: (6, 6),
-    produced: (1, 2),
-    sets: (1, 2),
+    produced: (1, 1),
+    sets: (1, 1),
     ..Shape::CHAINS
 };
 
@@ -30,7 +36,7 @@ fn pairs(query: &Query) -> impl Iterator<Item = (&Ordering, Vec<Dependency>)> {
 
 /// What the derivation gives from an order, when no entry is ever taken out but the
 /// last.
-fn without_taking_out(order: &[u8], dependencies: &[Dependency]) -> HashSet<Ordering> {
+fn without_taking_out(order: &[Entry], dependencies: &[Dependency]) -> HashSet<Ordering> {
     let mut reached = start(order);
     let mut waiting: Vec<Ordering> = reached.iter().cloned().collect();
     while let Some(ordering) = waiting.pop() {
@@ -44,14 +50,67 @@ fn without_taking_out(order: &[u8], dependencies: &[Dependency]) -> HashSet<Orde
     reached
 }
 
+/// What the closure test is compared with, and what was compared so far.
+#[derive(Debug, Default)]
+struct Compared {
+    /// Orderings that are derived, and ones that are not.
+    derived: usize,
+    others: usize,
+    /// Of the derived ones, those that differ in directions alone from the produced
+    /// order, and of the others, those that do.
+    derived_turned: usize,
+    others_turned: usize,
+    /// Interesting orders that come by taking out alone.
+    gained: usize,
+}
+
+impl Compared {
+    /// Compares the closure test with the derivation on all orderings, from a produced
+    /// order under some dependencies.
+    fn compare(
+        &mut self,
+        query: &Query,
+        all: &[Ordering],
+        produced: &Ordering,
+        dependencies: &[Dependency],
+    ) {
+        let derived = closure(start(produced), dependencies);
+        let in_force = InForce::new(query.columns, dependencies);
+        for ordering in all {
+            let is_derived = derived.contains(ordering);
+            assert_eq!(
+                in_force.holds(produced, ordering),
+                is_derived,
+                "{ordering:?} from {produced:?} under {dependencies:?}"
+            );
+            let is_turned = ordering != produced && columns_of(ordering) == columns_of(produced);
+            match is_derived {
+                true => self.derived_turned += usize::from(is_turned),
+                false => self.others_turned += usize::from(is_turned),
+            }
+        }
+        self.derived += derived.len();
+        self.others += all.len() - derived.len();
+
+        // Taking out only adds, and it does add.
+        let fewer = without_taking_out(produced, dependencies);
+        assert!(fewer.is_subset(&derived));
+        let interesting = query.interesting();
+        self.gained += interesting
+            .filter(|&order| derived.contains(order) && !fewer.contains(order))
+            .count();
+    }
+}
+
 #[test]
 fn the_closure_test_holds_exactly_the_derived_orderings() {
     let mut random = Random::new(11);
-    let (mut derived_orderings, mut others, mut gained) = (0, 0, 0);
+    let mut compared = Compared::default();
     for (shape, count) in [
-        (Shape::SMALL, 4000),
-        (Shape::CHAINS, 10_000),
-        (SIX_COLUMNS, 1000),
+        (FOUR_COLUMNS, 4000),
+        (Shape::SMALL, 300),
+        (Shape::CHAINS, 400),
+        (SIX_COLUMNS, 8),
     ] {
         for _ in 0..count {
             let query = match random.below(4) {
@@ -60,30 +119,23 @@ fn the_closure_test_holds_exactly_the_derived_orderings() {
             };
             let all = all_orderings(query.columns);
             for (produced, dependencies) in pairs(&query) {
-                let derived = closure(start(produced), &dependencies);
-                let in_force = InForce::new(query.columns, &dependencies);
-                for ordering in &all {
-                    assert_eq!(
-                        in_force.holds(produced, ordering),
-                        derived.contains(ordering),
-                        "{ordering:?} from {produced:?} under {dependencies:?}"
-                    );
-                }
-                derived_orderings += derived.len();
-                others += all.len() - derived.len();
-
-                // Taking out only adds, and it does add.
-                let fewer = without_taking_out(produced, &dependencies);
-                assert!(fewer.is_subset(&derived));
-                let interesting = query.interesting();
-                gained += interesting
-                    .filter(|&order| derived.contains(order) && !fewer.contains(order))
-                    .count();
+                compared.compare(&query, &all, produced, &dependencies);
             }
         }
     }
-    let enough = derived_orderings > 500_000 && others > 1_000_000 && gained > 3000;
-    assert!(enough, "{derived_orderings} {others} {gained}");
+    let Compared {
+        derived,
+        others,
+        derived_turned,
+        others_turned,
+        gained,
+    } = compared;
+    let enough = derived > 500_000 && others > 1_000_000 && gained > 500;
+    assert!(enough, "{compared:?}");
+    assert!(
+        derived_turned > 10_000 && others_turned > 10_000,
+        "{compared:?}"
+    );
 }
 
 #[test]
@@ -175,13 +227,36 @@ fn the_test_goes_through_both_orders() {
 
     let (a, b, c, d) = (0, 1, 2, 3);
     let in_force = InForce::new(4, &[Dependency::fix(0, &[a, b], c)]);
-    assert!(in_force.holds(&[a, b, c, d], &[a, b, d]));
-    assert!(in_force.holds(&[a, b, d], &[a, b, d, c]));
-    assert!(!in_force.holds(&[a, c, b, d], &[a, b, d]));
+    let holds = |produced: &[u8], tested: &[u8]| in_force.holds(&order(produced), &order(tested));
+    assert!(holds(&[a, b, c, d], &[a, b, d]));
+    assert!(holds(&[a, b, d], &[a, b, d, c]));
+    assert!(!holds(&[a, c, b, d], &[a, b, d]));
     // Nothing is left of the produced order.
-    assert!(!in_force.holds(&[a, b, c], &[a, b, d]));
-    assert!(!in_force.holds(&[], &[a]));
+    assert!(!holds(&[a, b, c], &[a, b, d]));
+    assert!(!holds(&[], &[a]));
     // All that is left of it is settled.
-    assert!(in_force.holds(&[a, b, c], &[a, b]));
-    assert!(in_force.holds(&[a, b, c, d], &[]));
+    assert!(holds(&[a, b, c], &[a, b]));
+    assert!(holds(&[a, b, c, d], &[]));
+}
+
+#[test]
+fn directions_are_those_of_the_entries_that_are_met() {
+    let (a, b, c, d) = (0, 1, 2, 3);
+    let [a_desc, b_desc, c_desc, d_desc] = [a, b, c, d].map(|column| column + DESCENDING);
+    let rules = [Dependency::fix(0, &[a], c), Dependency::equal(0, b, d)];
+    let in_force = InForce::new(4, &rules);
+    let holds = |produced: &[u8], tested: &[u8]| in_force.holds(&order(produced), &order(tested));
+    assert!(holds(&[a_desc], &[a_desc]) && !holds(&[a_desc], &[a]) && !holds(&[a], &[a_desc]));
+    // A settled column goes in and out in either direction.
+    for c_either in [c, c_desc] {
+        assert!(holds(&[a_desc, b], &[a_desc, c_either, b]));
+        assert!(holds(&[a, c_either, b_desc], &[a, b_desc]));
+        assert!(holds(&[a, c_either], &[a, c_desc]) && holds(&[a, c_either], &[a, c]));
+        assert!(!holds(&[a, c_either, b_desc], &[a, b]));
+        assert!(!holds(&[a, b], &[a_desc, c_either]));
+    }
+    // An equal column comes in the other one's direction, and behind it in either.
+    assert!(holds(&[b_desc], &[d_desc]) && !holds(&[b_desc], &[d]));
+    assert!(holds(&[b], &[b, d_desc]) && holds(&[b], &[d, b_desc]));
+    assert!(!holds(&[b], &[d_desc, b]));
 }

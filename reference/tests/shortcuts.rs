@@ -1,5 +1,5 @@
 //! The shortcuts that lose orders or invent them are not taken. Each query
-//! here comes out otherwise in a program that takes the shortcut. Five trials have the
+//! here comes out otherwise in a program that takes the shortcut. Six trials have the
 //! table of such a program.
 
 use std::collections::{BTreeSet, HashSet};
@@ -10,12 +10,13 @@ use reference::construction::of_pairs;
 use reference::derivation::{closure, start, steps, Ordering};
 use reference::lookups::{model_answers, table_answers, Answer, Lookup};
 use reference::merging::merged;
+use reference::query::{columns_of, order, DESCENDING};
 use reference::random::Random;
 use reference::rows::{obey_all, stand_in};
 use reference::samples::{self, Shape};
 use reference::settled::InForce;
 use reference::table::{word, State, Table};
-use reference::{trials, Dependency, Implementation, Query, Reference, Rule};
+use reference::{trials, Dependency, Entry, Implementation, Query, Reference, Rule};
 
 /// Whether an interesting order is held after entering by produced order 0 and
 /// taking set 0. The table and the plain model must agree.
@@ -37,7 +38,7 @@ struct Known {
 
 impl Known {
     /// The start from a produced order.
-    fn start(order: &[u8]) -> Self {
+    fn start(order: &[Entry]) -> Self {
         Self {
             start: start(order),
             orderings: start(order),
@@ -388,8 +389,8 @@ fn a_pair_of_fixes_is_not_an_equal() {
     let (a, b) = (0, 1);
     let query = Query {
         columns: 2,
-        produced: vec![vec![a]],
-        tested: vec![vec![b], vec![b, a], vec![a, b]],
+        produced: vec![order(&[a])],
+        tested: [&[b][..], &[b, a], &[a, b]].map(order).to_vec(),
         sets: 1,
         dependencies: vec![Dependency::fix(0, &[a], b), Dependency::fix(0, &[b], a)],
     };
@@ -397,9 +398,9 @@ fn a_pair_of_fixes_is_not_an_equal() {
     assert_eq!(held, [false, false, true]);
 
     let rows = vec![vec![0, 1], vec![1, 0]];
-    assert!(stand_in(&rows, &[a]));
+    assert!(stand_in(&rows, &order(&[a])));
     assert!(obey_all(&rows, &query.dependencies));
-    assert!(!stand_in(&rows, &[b]));
+    assert!(!stand_in(&rows, &order(&[b])));
 }
 
 #[test]
@@ -407,15 +408,17 @@ fn a_right_column_goes_in_behind_all_its_left_columns() {
     let (a, b, c, d) = (0, 1, 2, 3);
     let query = Query {
         columns: 4,
-        produced: vec![vec![a, b, d]],
-        tested: vec![
-            vec![c],
-            vec![a, c],
-            vec![a, c, b],
-            vec![a, b, c],
-            vec![a, b, c, d],
-            vec![a, b, d, c],
-        ],
+        produced: vec![order(&[a, b, d])],
+        tested: [
+            &[c][..],
+            &[a, c],
+            &[a, c, b],
+            &[a, b, c],
+            &[a, b, c, d],
+            &[a, b, d, c],
+        ]
+        .map(order)
+        .to_vec(),
         sets: 1,
         dependencies: vec![Dependency::fix(0, &[b, a], c)],
     };
@@ -447,35 +450,46 @@ enum Fault {
     SettledNotDropped,
     /// Two fixes that settle each other are an equal.
     PairOfFixesAsEqual,
+    /// Entries are compared by their columns alone.
+    DirectionIgnored,
+    /// An entry is met by one of an equal column in either direction.
+    EqualInEitherDirection,
+    /// A settled entry that is looked for is put in only where it ascends.
+    PutInAscending,
+    /// A settled entry of the produced order is dropped only where it ascends.
+    DroppedAscending,
 }
 
 impl Fault {
     /// Whether rows in a produced order are said to be in another.
-    fn holds(self, dependencies: &[Dependency], produced: &[u8], order: &[u8]) -> bool {
+    fn holds(self, dependencies: &[Dependency], produced: &[Entry], order: &[Entry]) -> bool {
         let dependencies = match self {
             Self::PairOfFixesAsEqual => with_equals_for_pairs(dependencies),
             _ => dependencies.to_vec(),
         };
         let mut rest = produced;
-        for (place, &column) in order.iter().enumerate() {
+        for (place, &entry) in order.iter().enumerate() {
             let done = match self {
-                Self::PutInBeforeItsLeft => without(order, column),
-                _ => order[..place].to_vec(),
+                Self::PutInBeforeItsLeft => without(&columns_of(order), entry.column),
+                _ => columns_of(&order[..place]),
             };
             let settled = self.settled(&dependencies, &done);
-            if settled.contains(&column) {
+            let is_kept = self == Self::PutInAscending && entry.descends;
+            if settled.contains(&entry.column) && !is_kept {
                 continue;
             }
-            let alike = |other: u8| self.alike(&dependencies, column, other);
+            let meets = |other: Entry| self.meets(&dependencies, entry, other);
             while let Some((&first, behind)) = rest.split_first() {
+                let is_settled = settled.contains(&first.column);
                 let dropped = match self {
                     Self::SettledNotDropped => false,
-                    Self::UnsettledSkipped => !alike(first),
+                    Self::DroppedAscending => is_settled && !first.descends,
+                    Self::UnsettledSkipped => !meets(first),
                     Self::LeftColumnBehind => {
-                        let around = [&done, behind].concat();
-                        self.settled(&dependencies, &around).contains(&first)
+                        let around = [done.clone(), columns_of(behind)].concat();
+                        self.settled(&dependencies, &around).contains(&first.column)
                     }
-                    _ => settled.contains(&first),
+                    _ => is_settled,
                 };
                 if !dropped {
                     break;
@@ -483,7 +497,7 @@ impl Fault {
                 rest = behind;
             }
             match rest.split_first() {
-                Some((&first, behind)) if alike(first) => rest = behind,
+                Some((&first, behind)) if meets(first) => rest = behind,
                 _ => return false,
             }
         }
@@ -520,6 +534,17 @@ impl Fault {
         }
     }
 
+    /// Whether an entry that is looked for is met by one of the produced order: it has
+    /// its direction, and a column of its class.
+    fn meets(self, dependencies: &[Dependency], entry: Entry, other: Entry) -> bool {
+        let same_direction = match self {
+            Self::DirectionIgnored => true,
+            Self::EqualInEitherDirection if entry.column != other.column => true,
+            _ => entry.descends == other.descends,
+        };
+        same_direction && self.alike(dependencies, entry.column, other.column)
+    }
+
     /// Whether two columns are in one class.
     fn alike(self, dependencies: &[Dependency], one: u8, other: u8) -> bool {
         let equals = dependencies
@@ -553,10 +578,10 @@ impl Fault {
     }
 }
 
-/// An order without one of its columns.
-fn without(order: &[u8], column: u8) -> Vec<u8> {
-    let mut rest = order.to_vec();
-    rest.retain(|&entry| entry != column);
+/// Columns without one of them.
+fn without(columns: &[u8], column: u8) -> Vec<u8> {
+    let mut rest = columns.to_vec();
+    rest.retain(|&other| other != column);
     rest
 }
 
@@ -577,11 +602,14 @@ fn with_equals_for_pairs(dependencies: &[Dependency]) -> Vec<Dependency> {
     more
 }
 
-/// Columns of the queries below.
+/// Columns of the queries below, and some of them descending.
 const A: u8 = 0;
 const B: u8 = 1;
 const C: u8 = 2;
 const D: u8 = 3;
+const A_DESC: u8 = DESCENDING + A;
+const B_DESC: u8 = DESCENDING + B;
+const C_DESC: u8 = DESCENDING + C;
 
 /// A fix of the one set of the queries below.
 fn fix(left: &[u8], right: u8) -> Dependency {
@@ -593,6 +621,17 @@ fn equal(one: u8, other: u8) -> Dependency {
     Dependency::equal(0, one, other)
 }
 
+/// A query of four columns with one set, a produced order and a tested one.
+fn query_of_one_set(dependencies: &[Dependency], produced: &[Entry], tested: &[Entry]) -> Query {
+    Query {
+        columns: 4,
+        produced: vec![produced.to_vec()],
+        tested: vec![tested.to_vec()],
+        sets: 1,
+        dependencies: dependencies.to_vec(),
+    }
+}
+
 /// Checks that after a set of these dependencies a tested order is held, or is not,
 /// where another is produced, and that a program with this fault says otherwise and
 /// gives a wrong table.
@@ -602,13 +641,8 @@ fn assert_wrong(
     (produced, tested): (&[u8], &[u8]),
     held: bool,
 ) {
-    let query = Query {
-        columns: 4,
-        produced: vec![produced.to_vec()],
-        tested: vec![tested.to_vec()],
-        sets: 1,
-        dependencies: dependencies.to_vec(),
-    };
+    let (produced, tested) = (&order(produced), &order(tested));
+    let query = query_of_one_set(dependencies, produced, tested);
     assert_eq!(held_after_set_0(&query, 1), held);
     assert_eq!(fault.holds(dependencies, produced, tested), !held);
     assert!(is_right(&query, &Fault::None.table(&query)));
@@ -685,6 +719,104 @@ fn a_pair_of_fixes_joins_no_class() {
 }
 
 #[test]
+fn an_entry_is_met_by_one_of_its_direction() {
+    let fault = Fault::DirectionIgnored;
+    assert_wrong(fault, &[], (&[A_DESC], &[A]), false);
+    assert_wrong(fault, &[], (&[A], &[A_DESC]), false);
+    assert_wrong(fault, &[fix(&[A], B)], (&[A, B, C], &[A, C_DESC]), false);
+    assert_wrong(fault, &[equal(A, B)], (&[A_DESC], &[B]), false);
+}
+
+#[test]
+fn an_equal_column_takes_the_direction_of_the_one_in_whose_stead_it_stands() {
+    let fault = Fault::EqualInEitherDirection;
+    assert_wrong(fault, &[equal(A, B)], (&[A_DESC], &[B]), false);
+    assert_wrong(fault, &[equal(A, B)], (&[A, C], &[B_DESC, C]), false);
+}
+
+#[test]
+fn a_settled_column_is_put_in_in_either_direction() {
+    let fault = Fault::PutInAscending;
+    assert_wrong(fault, &[fix(&[A], B)], (&[A], &[A, B_DESC]), true);
+    assert_wrong(fault, &[fix(&[], B)], (&[A], &[B_DESC, A]), true);
+    assert_wrong(fault, &[equal(A, B)], (&[A, C], &[A, B_DESC, C]), true);
+}
+
+#[test]
+fn a_settled_column_is_taken_out_whatever_its_direction() {
+    let fault = Fault::DroppedAscending;
+    assert_wrong(fault, &[fix(&[A], B)], (&[A, B_DESC, C], &[A, C]), true);
+    assert_wrong(fault, &[equal(A, B)], (&[A, B_DESC, C], &[A, C]), true);
+}
+
+/// Whether a derivation that changes or drops results in this way gives a tested order
+/// from a produced one, and whether the derivation itself does. The table of the first
+/// must be wrong.
+fn given_by_steps(
+    dependencies: &[Dependency],
+    (produced, tested): (&[u8], &[u8]),
+    kept: impl Fn(&Ordering, Ordering) -> Option<Ordering>,
+) -> [bool; 2] {
+    let (produced, tested) = (&order(produced), &order(tested));
+    let query = query_of_one_set(dependencies, produced, tested);
+    let derive =
+        |from: &HashSet<Ordering>, in_force: &[Dependency]| closure_by(from, in_force, &kept);
+    let table = table_of_derivation(&query, derive);
+    assert!(!is_right(&query, &table), "{query:?}");
+    let given = derive(&start(produced), dependencies).contains(tested);
+    [given, held_after_set_0(&query, 1)]
+}
+
+/// The entry that a result has more than an ordering, or has in another's stead.
+fn entry_put_in(ordering: &Ordering, result: &Ordering) -> Option<Entry> {
+    let columns = columns_of(ordering);
+    let mut entries = result.iter().copied();
+    entries.find(|entry| !columns.contains(&entry.column))
+}
+
+#[test]
+fn steps_that_put_columns_in_ascending_alone_lose_orders() {
+    let ascending_alone = |ordering: &Ordering, result: Ordering| {
+        let put_in = entry_put_in(ordering, &result);
+        let dropped = put_in.is_some_and(|entry| entry.descends);
+        (!dropped).then_some(result)
+    };
+    for (dependencies, orders) in [
+        (fix(&[A], B), (&[A][..], &[A, B_DESC][..])),
+        (fix(&[], B), (&[A], &[B_DESC, A])),
+        (equal(A, B), (&[A, C], &[A, B_DESC, C])),
+    ] {
+        let given = given_by_steps(&[dependencies], orders, ascending_alone);
+        assert_eq!(given, [false, true], "{orders:?}");
+    }
+}
+
+#[test]
+fn steps_that_leave_an_equal_column_its_own_direction_invent_orders() {
+    // In the stead of the other column, or directly before it, the equal one ascends.
+    let in_its_own = |ordering: &Ordering, mut result: Ordering| {
+        let put_in = entry_put_in(ordering, &result);
+        let place = put_in.and_then(|put_in| result.iter().position(|&entry| entry == put_in));
+        if let Some(place) = place {
+            let next = result.get(place + 1);
+            let before = next.is_some_and(|next| [A, B].contains(&next.column));
+            let in_the_stead = result.len() == ordering.len();
+            result[place].descends &= !(in_the_stead || before);
+        }
+        Some(result)
+    };
+    let equals = [equal(A, B)];
+    for orders in [
+        (&[A_DESC][..], &[B][..]),
+        (&[A_DESC], &[B, A_DESC]),
+        (&[C, A_DESC], &[C, B]),
+    ] {
+        let given = given_by_steps(&equals, orders, in_its_own);
+        assert_eq!(given, [true, false], "{orders:?}");
+    }
+}
+
+#[test]
 fn faults_of_the_closure_test_give_wrong_tables_for_trials() {
     for (fault, names) in [
         (Fault::LeftColumnBehind, &["left_column_behind"][..]),
@@ -700,15 +832,38 @@ fn faults_of_the_closure_test_give_wrong_tables_for_trials() {
             &["time_axis_code", "settled_chain"],
         ),
         (Fault::PairOfFixesAsEqual, &["pair_of_fixes"]),
+        (
+            Fault::DirectionIgnored,
+            &[
+                "newest_first",
+                "descending_is_not_ascending",
+                "trip_reports",
+            ],
+        ),
+        (
+            Fault::EqualInEitherDirection,
+            &["equal_takes_the_direction", "both_directions"],
+        ),
+        (
+            Fault::PutInAscending,
+            &[
+                "constant_in_either_direction",
+                "inserted_in_either_direction",
+            ],
+        ),
+        (Fault::DroppedAscending, &["descending_column_goes"]),
     ] {
         for name in names {
             let query = query_of(name);
             assert!(!is_right(&query, &fault.table(&query)), "{fault:?} {name}");
         }
     }
-    let query = query_of("supplied_pair_of_fixes");
-    let table = Fault::PairOfFixesAsEqual.table(&query);
-    assert_eq!(table, supplied("supplied_pair_of_fixes"));
+    for (fault, name) in [
+        (Fault::PairOfFixesAsEqual, "supplied_pair_of_fixes"),
+        (Fault::DirectionIgnored, "supplied_direction_ignored"),
+    ] {
+        assert_eq!(fault.table(&query_of(name)), supplied(name), "{fault:?}");
+    }
 }
 
 #[test]
@@ -743,7 +898,10 @@ fn a_right_column_in_no_interesting_order_may_be_the_left_of_another() {
         fewer
             .dependencies
             .retain(|dependency| match dependency.rule {
-                Rule::Fix { right, .. } => query.interesting().any(|order| order.contains(&right)),
+                Rule::Fix { right, .. } => {
+                    let mut entries = query.interesting().flatten();
+                    entries.any(|entry| entry.column == right)
+                }
                 Rule::Equal(..) => true,
             });
         assert!(fewer.dependencies.len() < query.dependencies.len());

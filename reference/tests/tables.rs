@@ -4,6 +4,7 @@ use std::ops::Range;
 use std::sync::LazyLock;
 
 use reference::builder::build_table;
+use reference::query::order;
 use reference::random::Random;
 use reference::samples::{self, Shape};
 use reference::table::{ask, check, enter, row, take, word, Table};
@@ -297,10 +298,10 @@ fn all_sixteen_held_bits_are_used() {
     let query = Query {
         columns: 4,
         produced: (0..4)
-            .flat_map(|one| [vec![one], vec![one, (one + 1) % 4]])
+            .flat_map(|one| [order(&[one]), order(&[one, (one + 1) % 4])])
             .collect(),
         tested: (0..4)
-            .flat_map(|one| [vec![one, (one + 2) % 4], vec![one, (one + 3) % 4]])
+            .flat_map(|one| [order(&[one, (one + 2) % 4]), order(&[one, (one + 3) % 4])])
             .collect(),
         sets: 1,
         dependencies: (0..4).map(|c| Dependency::fix(0, &[], c)).collect(),

@@ -3,11 +3,12 @@
 
 use reference::construction::smallest;
 use reference::lookups::{model_answers, Answer};
+use reference::query::order;
 use reference::trials::{self, Trial};
 use reference::{Dependency, Query, Reference};
 
 /// How many trials there are at least.
-const TRIALS: usize = 47;
+const TRIALS: usize = 62;
 
 #[test]
 fn every_trial() {
@@ -41,8 +42,8 @@ fn check_by_the_query(trial: &Trial, query: &Query) {
 fn the_example_is_read_as_its_comments_say() {
     let query = Query {
         columns: 3,
-        produced: vec![vec![0], vec![1, 0]],
-        tested: vec![vec![0, 1], vec![2]],
+        produced: vec![order(&[0]), order(&[1, 0])],
+        tested: vec![order(&[0, 1]), order(&[2])],
         sets: 2,
         dependencies: vec![Dependency::fix(0, &[0], 1), Dependency::equal(1, 1, 2)],
     };

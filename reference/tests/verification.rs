@@ -4,6 +4,7 @@
 use reference::buffers::SCRATCH_BYTES;
 use reference::builder::table_of;
 use reference::model::Model;
+use reference::query::order;
 use reference::random::Random;
 use reference::samples::{self, most_orders, own_column_per_set, Kind, Shape, Supplied};
 use reference::table::Table;
@@ -161,7 +162,7 @@ fn a_wrong_answer_after_127_sets_is_found() {
 fn every_start_is_tried() {
     let query = Query {
         columns: 3,
-        produced: vec![vec![0], vec![1], vec![2]],
+        produced: [0, 1, 2].map(|column| order(&[column])).to_vec(),
         tested: vec![],
         sets: 0,
         dependencies: vec![],
@@ -196,6 +197,7 @@ fn tables_of_trials_are_wrong_after_as_many_sets_as_is_said_of_them() {
         ("supplied_prefix_test", Some(2)),
         ("supplied_wrong_after_three_sets", Some(3)),
         ("supplied_settled_column_kept", Some(1)),
+        ("supplied_direction_ignored", Some(0)),
         ("supplied_nothing_to_take_out", None),
         ("supplied_renumbered", None),
         ("supplied_twin_rows", None),

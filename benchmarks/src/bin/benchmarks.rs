@@ -12,6 +12,7 @@ use benchmarks::timing::{take_turns, Builds};
 use order_tables::raw as proved;
 use reference::builder::table_of;
 use reference::construction::of_pairs;
+use reference::query::Order;
 use reference::random::Random;
 use reference::samples::renumbered;
 use reference::table::Table;
@@ -28,8 +29,9 @@ const LOOKUPS: usize = 4096;
 const LOOKED_UP: [&str; 3] = ["listing_example", "six_joins", "seven_sets"];
 /// The queries that are asked by reduction too. In the last two a table and a
 /// reduction differ often.
-const REDUCED: [&str; 5] = [
+const REDUCED: [&str; 6] = [
     "listing_example",
+    "trip_reports",
     "six_joins",
     "seven_sets",
     "reduction_not_confluent",
@@ -37,9 +39,10 @@ const REDUCED: [&str; 5] = [
 ];
 /// The queries whose tables are put on trial: small ones, ones of many pairs and
 /// few rows, and ones of the most rows.
-const SUPPLIED: [&str; 7] = [
+const SUPPLIED: [&str; 8] = [
     "constant",
     "listing_example",
+    "trip_reports",
     "six_joins",
     "slowest_build",
     "tpcr_query_8",
@@ -185,13 +188,13 @@ struct Ask {
     state: u8,
     node: PlanNode,
     handle: u8,
-    order: Vec<u8>,
+    order: Order,
 }
 
 /// Asks of random plans that take up to three sets.
 fn asks(query: &Query, table: &[u8]) -> Vec<Ask> {
     let mut random = Random::new(2);
-    let orders: Vec<&Vec<u8>> = query.interesting().collect();
+    let orders: Vec<&Order> = query.interesting().collect();
     (0..LOOKUPS)
         .map(|_| {
             let produced = random.below(query.produced.len());

@@ -20,7 +20,8 @@ pub use queries::{
     all_orderings, any_query, chain_of_equals, chains_with_table, constants, dependency,
     joined_starts, longest_table, most_orders, near_the_most_rows, nearly_query,
     own_column_per_set, query, query_of_chains, query_of_many_rows, query_of_sizes,
-    query_with_table, some_columns, with_equal_orders, Shape, QUERY_EDGES,
+    query_with_table, some_columns, some_order, turned, with_equal_orders, with_turned_orders,
+    Shape, QUERY_EDGES,
 };
 pub use rows::rows;
 pub use supplied::{

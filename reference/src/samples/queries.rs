@@ -4,7 +4,7 @@ use std::collections::HashSet;
 
 use crate::builder::build_table;
 use crate::derivation::Ordering;
-use crate::query::{Dependency, Order, Query};
+use crate::query::{columns_of, order, ColumnSet, Dependency, Entry, Order, Query, DESCENDING};
 use crate::random::Random;
 use crate::samples::bytes::{any_byte, any_sizes, damaged};
 
@@ -86,10 +86,10 @@ impl Shape {
         sets: (1, 3),
         dependencies: (2, 8),
     };
-    /// More columns, orders and sets than in small queries, and still few enough
-    /// columns for deriving orderings.
+    /// More orders and sets than in small queries, and still few enough columns for
+    /// deriving orderings.
     pub const MIDDLE: Self = Self {
-        columns: (4, 6),
+        columns: (4, 5),
         produced: (1, 5),
         tested: (0, 8),
         lengths: (0, 4),
@@ -103,8 +103,8 @@ impl Shape {
 pub fn own_column_per_set(sets: u8) -> Query {
     Query {
         columns: 12,
-        produced: vec![vec![0]],
-        tested: (1..=sets).map(|b| vec![0, b]).collect(),
+        produced: vec![order(&[0])],
+        tested: (1..=sets).map(|b| order(&[0, b])).collect(),
         sets,
         dependencies: (0..sets)
             .map(|set| Dependency::fix(set, &[0], set + 1))
@@ -136,8 +136,10 @@ pub fn near_the_most_rows(joined: bool, unsorted: bool) -> Query {
 pub fn longest_table() -> Query {
     Query {
         columns: 12,
-        produced: (0..8).map(|c| vec![c]).collect(),
-        tested: (8..12).flat_map(|k| [vec![k], vec![k, k - 8]]).collect(),
+        produced: (0..8).map(|c| order(&[c])).collect(),
+        tested: (8..12)
+            .flat_map(|k| [order(&[k]), order(&[k, k - 8])])
+            .collect(),
         sets: 8,
         dependencies: (0..8)
             .map(|set| Dependency::fix(set, &[], 8 + set % 4))
@@ -151,8 +153,8 @@ pub fn longest_table() -> Query {
 pub fn chain_of_equals(sets: u8) -> Query {
     Query {
         columns: sets + 1,
-        produced: vec![vec![0]],
-        tested: vec![vec![sets]],
+        produced: vec![order(&[0])],
+        tested: vec![order(&[sets])],
         sets,
         dependencies: (0..sets)
             .map(|set| Dependency::equal(set, set, set + 1))
@@ -165,7 +167,7 @@ pub fn chain_of_equals(sets: u8) -> Query {
 pub fn joined_starts(sets: u8) -> Query {
     Query {
         columns: 2,
-        produced: vec![vec![0], vec![1]],
+        produced: vec![order(&[0]), order(&[1])],
         tested: vec![],
         sets,
         dependencies: (0..sets).map(|set| Dependency::equal(set, 0, 1)).collect(),
@@ -178,8 +180,8 @@ pub fn joined_starts(sets: u8) -> Query {
 pub fn most_orders() -> Query {
     Query {
         columns: 12,
-        produced: (0..8).map(|c| vec![c]).collect(),
-        tested: (0..8).map(|c| vec![c, 11]).collect(),
+        produced: (0..8).map(|c| order(&[c])).collect(),
+        tested: (0..8).map(|c| order(&[c, 11])).collect(),
         sets: 4,
         dependencies: (0..8).map(|c| Dependency::fix(c % 4, &[c], 11)).collect(),
     }
@@ -191,7 +193,7 @@ pub fn constants(columns: u8) -> Query {
     Query {
         columns,
         produced: vec![vec![]],
-        tested: constants.chunks(3).map(<[u8]>::to_vec).collect(),
+        tested: constants.chunks(3).map(order).collect(),
         sets: 1,
         dependencies: constants
             .iter()
@@ -200,13 +202,65 @@ pub fn constants(columns: u8) -> Query {
     }
 }
 
+/// The directions of a random query's entries.
+#[derive(Clone, Copy, Debug)]
+struct Directions {
+    /// The columns that descend.
+    descending: ColumnSet,
+    /// One entry in so many stands in the other direction, if there is a number.
+    strays: Option<usize>,
+}
+
+impl Directions {
+    /// Random ones. For a quarter of the queries no entry descends; for another one
+    /// all do, but for strays.
+    fn any(random: &mut Random) -> Self {
+        let some = random.below(1 << 12) as ColumnSet;
+        let (descending, strays) = match random.below(4) {
+            0 => (0, None),
+            1 => (ColumnSet::MAX, Some(12)),
+            2 => (some, Some(12)),
+            _ => (some, Some(3)),
+        };
+        Self { descending, strays }
+    }
+
+    /// An order of these columns.
+    fn order(self, random: &mut Random, columns: &[u8]) -> Order {
+        let entries = columns.iter().map(|&column| Entry {
+            column,
+            descends: self.descending >> column & 1 == 1,
+        });
+        let mut order = entries.collect();
+        self.stray(random, &mut order);
+        order
+    }
+
+    /// Turns entries of an order round, as often as strays come.
+    fn stray(self, random: &mut Random, order: &mut Order) {
+        for entry in order {
+            let is_stray = self.strays.is_some_and(|strays| random.one_in(strays));
+            entry.descends ^= is_stray;
+        }
+    }
+}
+
 /// A random query that passes the checks 1 to 6.
 pub fn query(random: &mut Random, shape: Shape) -> Query {
+    let directions = Directions::any(random);
+    query_in(random, shape, directions)
+}
+
+/// A random query that passes the checks 1 to 6, its entries in these directions.
+fn query_in(random: &mut Random, shape: Shape, directions: Directions) -> Query {
     let columns = random.between(shape.columns) as u8;
     let mut seen = HashSet::new();
     let mut orders = |random: &mut Random, counts: (usize, usize)| -> Vec<Order> {
         (0..random.between(counts))
-            .map(|_| some_columns(random, columns, shape.lengths))
+            .map(|_| {
+                let columns = some_columns(random, columns, shape.lengths);
+                directions.order(random, &columns)
+            })
             .filter(|order| seen.insert(order.clone()))
             .collect()
     };
@@ -254,14 +308,20 @@ fn first_with_table(mut make: impl FnMut() -> Query) -> (Query, Vec<u8>) {
     }
 }
 
-/// A query of the same sizes with one order or one dependency made anew.
+/// A query of the same sizes with one order or one dependency made anew, or with one
+/// entry turned round.
 fn with_an_item_changed(random: &mut Random, query: &Query) -> Query {
     let mut changed = query.clone();
     let orders = changed.produced.iter_mut().chain(&mut changed.tested);
     let mut orders: Vec<&mut Order> = orders.collect();
     let item = random.below(orders.len() + query.dependencies.len());
     if item < orders.len() {
-        *orders[item] = some_columns(random, query.columns, Shape::FULL.lengths);
+        let order = &mut orders[item];
+        if random.one_in(2) {
+            **order = some_order(random, query.columns, Shape::FULL.lengths);
+        } else {
+            turn_one(random, order);
+        }
     } else {
         let made_anew = dependency(random, query.columns, query.sets);
         changed.dependencies[item - orders.len()] = made_anew;
@@ -272,16 +332,25 @@ fn with_an_item_changed(random: &mut Random, query: &Query) -> Query {
 /// A random query with many rows: most sets fix a column of their own, so that
 /// nearly every choice of sets has a row.
 pub fn query_of_many_rows(random: &mut Random) -> Query {
+    let directions = Directions {
+        strays: None,
+        ..Directions::any(random)
+    };
     let sets = random.between((4, 8)) as u8;
     let mut query = own_column_per_set(sets);
     for order in query.produced.iter_mut().chain(&mut query.tested) {
-        order.push(9);
+        let columns = [&columns_of(order)[..], &[9]].concat();
+        *order = directions.order(random, &columns);
     }
     for _ in 0..random.below(3) {
         query.dependencies[random.below(sets.into())] = dependency(random, 12, sets);
     }
     if random.one_in(2) {
-        query.produced.push(some_columns(random, 12, (2, 3)));
+        let columns = some_columns(random, 12, (2, 3));
+        let order = directions.order(random, &columns);
+        if !query.interesting().any(|other| *other == order) {
+            query.produced.push(order);
+        }
     }
     query
 }
@@ -291,7 +360,8 @@ pub fn query_of_many_rows(random: &mut Random) -> Query {
 /// them closed to a cycle; they lie in any sequence and in any sets. Most tested
 /// orders are produced ones with entries left out, put in or put elsewhere.
 pub fn query_of_chains(random: &mut Random, shape: Shape) -> Query {
-    let mut query = query(random, shape);
+    let directions = Directions::any(random);
+    let mut query = query_in(random, shape, directions);
     let (columns, sets) = (query.columns, query.sets);
     let mut chained = Vec::new();
     while sets > 0 && chained.len() < query.dependencies.len() {
@@ -318,7 +388,7 @@ pub fn query_of_chains(random: &mut Random, shape: Shape) -> Query {
 
     for place in 0..query.tested.len() {
         let order = &query.produced[random.below(query.produced.len())];
-        let order = nearly_order(random, order, columns);
+        let order = nearly_order(random, order, columns, directions);
         if !random.one_in(4) && !query.interesting().any(|other| *other == order) {
             query.tested[place] = order;
         }
@@ -326,24 +396,39 @@ pub fn query_of_chains(random: &mut Random, shape: Shape) -> Query {
     query
 }
 
-/// An order with some entries left out, and perhaps one put in or put elsewhere.
-fn nearly_order(random: &mut Random, order: &[u8], columns: u8) -> Order {
-    let mut near: Order = order.to_vec();
+/// An order with some entries left out, and perhaps one put in or put elsewhere, and
+/// strays.
+fn nearly_order(random: &mut Random, order: &Order, columns: u8, directions: Directions) -> Order {
+    let mut near = order.clone();
     near.retain(|_| !random.one_in(3));
+    directions.stray(random, &mut near);
     if random.one_in(2) {
         let column = random.below(columns.into()) as u8;
-        near.retain(|&entry| entry != column);
+        near.retain(|entry| entry.column != column);
         near.truncate(3);
-        near.insert(random.below(near.len() + 1), column);
+        let entry = directions.order(random, &[column])[0];
+        near.insert(random.below(near.len() + 1), entry);
     }
     near
 }
 
 /// A random query that has one interesting order twice.
 pub fn with_equal_orders(random: &mut Random) -> Query {
+    with_an_order_again(random, |_, _| {})
+}
+
+/// A random query that has one interesting order again with one entry turned round, or
+/// twice where the order is empty.
+pub fn with_turned_orders(random: &mut Random) -> Query {
+    with_an_order_again(random, turn_one)
+}
+
+/// A random query that has one interesting order again, with this change.
+fn with_an_order_again(random: &mut Random, change: fn(&mut Random, &mut Order)) -> Query {
     let mut query = query(random, Shape::FULL);
     let interesting: Vec<_> = query.interesting().cloned().collect();
-    let again = interesting[random.below(interesting.len())].clone();
+    let mut again = interesting[random.below(interesting.len())].clone();
+    change(random, &mut again);
     let orders = match random.below(2) {
         0 => &mut query.produced,
         _ => &mut query.tested,
@@ -351,6 +436,25 @@ pub fn with_equal_orders(random: &mut Random) -> Query {
     orders.truncate(7);
     orders.insert(random.below(orders.len() + 1), again);
     query
+}
+
+/// A query with the entries of some columns turned round. Where equals join these to
+/// no others, it has the same table.
+pub fn turned(query: &Query, columns: ColumnSet) -> Query {
+    let mut turned = query.clone();
+    let orders = turned.produced.iter_mut().chain(&mut turned.tested);
+    for entry in orders.flatten() {
+        entry.descends ^= columns >> entry.column & 1 == 1;
+    }
+    turned
+}
+
+/// Turns one entry of an order round, if it has one.
+fn turn_one(random: &mut Random, order: &mut Order) {
+    if !order.is_empty() {
+        let place = random.below(order.len());
+        order[place].descends ^= true;
+    }
 }
 
 /// The bytes of a query of any kind: small or large, read or refused.
@@ -371,7 +475,10 @@ pub fn any_query(random: &mut Random) -> Vec<u8> {
             let query = query(random, Shape::FULL).write();
             damaged(random, &query)
         }
-        8 => with_equal_orders(random).write(),
+        8 => match random.below(2) {
+            0 => with_equal_orders(random).write(),
+            _ => with_turned_orders(random).write(),
+        },
         _ => nearly_query(random),
     }
 }
@@ -389,7 +496,8 @@ pub fn query_of_sizes(random: &mut Random, sizes: [u8; 5]) -> Vec<u8> {
     let mut heads = Vec::new();
     let mut fields = Vec::new();
     for item in 0..produced + tested + dependencies {
-        let (head, used) = if item < produced + tested {
+        let is_order = item < produced + tested;
+        let (head, used) = if is_order {
             let length = random.between((0, 4));
             (length, length)
         } else {
@@ -401,10 +509,17 @@ pub fn query_of_sizes(random: &mut Random, sizes: [u8; 5]) -> Vec<u8> {
         } else {
             head as u8
         });
+        let descending_one_in = if is_order { 2 } else { 32 };
         fields.extend((0..4).map(|place| match random.below(32) {
             0 => any_byte(random),
-            _ if place < used => random.below(columns + 1) as u8,
-            _ => 255,
+            _ if place >= used => 255,
+            _ => {
+                let column = random.below(columns + 1) as u8;
+                match random.one_in(descending_one_in) {
+                    true => column ^ DESCENDING,
+                    false => column,
+                }
+            }
         }));
     }
     [sizes.to_vec(), heads, fields].concat()
@@ -431,14 +546,21 @@ pub fn some_columns(random: &mut Random, columns: u8, lengths: (usize, usize)) -
     columns
 }
 
+/// An order of different ones of so many columns, in a random sequence and in random
+/// directions: from the least to the most, or all of them where these are fewer.
+pub fn some_order(random: &mut Random, columns: u8, lengths: (usize, usize)) -> Order {
+    let columns = some_columns(random, columns, lengths);
+    Directions::any(random).order(random, &columns)
+}
+
 /// All orderings of so many columns, the shorter ones first.
 pub fn all_orderings(columns: u8) -> Vec<Ordering> {
     let mut orderings: Vec<Ordering> = vec![vec![]];
     let mut next = 0;
     while next < orderings.len() {
-        for column in 0..columns {
-            if !orderings[next].contains(&column) {
-                let longer = [orderings[next].as_slice(), &[column]].concat();
+        for entry in (0..columns).flat_map(Entry::either) {
+            if !columns_of(&orderings[next]).contains(&entry.column) {
+                let longer = [orderings[next].as_slice(), &[entry]].concat();
                 orderings.push(longer);
             }
         }

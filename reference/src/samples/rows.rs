@@ -1,6 +1,6 @@
 //! Random rows.
 
-use crate::query::{Query, Rule};
+use crate::query::{Entry, Query, Rule};
 use crate::random::Random;
 use crate::rows::{alike, obey, sort_key, Row};
 
@@ -9,7 +9,7 @@ use crate::rows::{alike, obey, sort_key, Row};
 pub fn rows(
     random: &mut Random,
     query: &Query,
-    order: &[u8],
+    order: &[Entry],
     sets: &[u8],
     count: usize,
 ) -> Vec<Row> {
