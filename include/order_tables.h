@@ -3,12 +3,14 @@
  *
  * Words and letters
  *
- * An order is a list of 0 to 4 different columns, the most significant first; in the empty order all rows stand. Operators can deliver rows in the
- * produced orders; the tested orders are only looked for; both are interesting orders, the produced ones counted first. A dependency is a fix (rows
- * alike in its left columns are alike in its right one; without left columns the right one is a constant) or an equal (each row has one value in both
- * columns). It belongs to a set, and one operator brings one set. A state is a row of the table, and a plan node carries one state's number. A run is
- * an entry by a produced order and the sets taken since; a choice is the sets in force. A set that is taken stays in force: what is held in a state is
- * what all sets taken since the entry give together, in any order and however often each is taken.
+ * An order is a list of 0 to 4 different columns, the most significant first, each ascending or descending. Rows stand in it when no row compares
+ * below an earlier one: in the first column in which they differ, the smaller value comes first where it ascends, the larger where it descends. Ties
+ * are allowed, and in the empty order all rows stand. Operators can deliver rows in the produced orders; the tested orders are only looked for; both
+ * are interesting orders, the produced ones counted first. A dependency is a fix (rows alike in its left columns are alike in its right one; without
+ * left columns the right one is a constant) or an equal (each row has one value in both columns). Its columns have no direction. It belongs to a set,
+ * and one operator brings one set. A state is a row of the table, and a plan node carries one state's number. A run is an entry by a produced order
+ * and the sets taken since; a choice is the sets in force. A set that is taken stays in force: what is held in a state is what all sets taken since
+ * the entry give together, in any order and however often each is taken.
  *
  *     N columns        1 to ORDER_TABLE_MAX_COLUMNS            D dependencies   0 to ORDER_TABLE_MAX_DEPENDENCIES
  *     P produced       1 to ORDER_TABLE_MAX_PRODUCED           Q states         1 to ORDER_TABLE_MAX_STATES
@@ -20,8 +22,9 @@
  * Layouts, a byte for each value (docs/FORMAT.md has both with an example, byte by byte)
  *
  *     query   N, P, T, S, D; a head for each item: P + T orders, then D dependencies; then four bytes for each item, in the same sequence. An order's
- *             head is its length, its bytes are its columns. A dependency's head is 16 * kind + set: kind 0 to 3 is a fix with so many left columns,
- *             those and then the right one; kind 4 is an equal, two columns. Unused bytes are 255.
+ *             head is its length, and each of its bytes is a column, with ORDER_TABLE_DESCENDING added where it is descending. A dependency's head is
+ *             16 * kind + set: kind 0 to 3 is a fix with so many left columns, those and then the right one; kind 4 is an equal, two columns; nothing
+ *             is added to these. Unused bytes are 255.
  *     table   Q, P, T, S; P starts; for each state a row of S successors; for each state two bytes of held bits, the low byte first, bit i for
  *             interesting order i, the bits from P + T on 0.
  *
@@ -45,7 +48,7 @@
 #include <stdint.h>
 
 /* This version of the library. */
-#define ORDER_TABLES_VERSION "0.6.0"
+#define ORDER_TABLES_VERSION "0.7.0"
 
 #ifdef __cplusplus
 extern "C" {
@@ -61,15 +64,20 @@ enum order_table_limits {
     ORDER_TABLE_MAX_STATES = 128       /* Q, at least 1 */
 };
 
+/* What is added to a column in an order's bytes. Nothing is added to one that is ascending. */
+enum order_table_directions {
+    ORDER_TABLE_DESCENDING = 128 /* it is descending */
+};
+
 /* Refusals, in the numbers and words of the refusal list. */
 enum order_table_refusals {
     ORDER_TABLE_GRANTED = 0,   /* none */
     ORDER_TABLE_LENGTH = 1,    /* fewer bytes than the sizes take, or a total other than they imply */
     ORDER_TABLE_SIZE = 2,      /* a size outside its limits */
     ORDER_TABLE_ITEM = 3,      /* order length above 4, kind above 4, set not below S, unused byte not 255 */
-    ORDER_TABLE_COLUMN = 4,    /* a column not below N */
-    ORDER_TABLE_REPEAT = 5,    /* a column twice in one order or one dependency */
-    ORDER_TABLE_TWIN = 6,      /* two equal interesting orders */
+    ORDER_TABLE_COLUMN = 4,    /* a column not below N; in a dependency every byte of 128 or more is one */
+    ORDER_TABLE_REPEAT = 5,    /* a column twice in one order, in one direction or in both, or in one dependency */
+    ORDER_TABLE_TWIN = 6,      /* two interesting orders of the same columns in the same directions */
     ORDER_TABLE_ORDERINGS = 7, /* never given: its number and word stay in the list */
     ORDER_TABLE_STATES = 8,    /* the smallest table has more than ORDER_TABLE_MAX_STATES rows */
     ORDER_TABLE_SPACE = 9,     /* scratch below ORDER_TABLE_SCRATCH bytes, or output, text or rows too short */
@@ -122,11 +130,13 @@ static inline const char *order_table_refusal_word(uint32_t number) {
 }
 
 /* The checks 1 to 6 of a query. Value: 0. Refusals, in this order: 1 for fewer than five bytes; 2; 1 if the total is not what the sizes imply; then 3, 4 and 5
- * of each item in turn; then 6. A query that passes them may still be refused with 8 when it is built. */
+ * of each item in turn; then 6. Of an order 4 and 5 look at the columns alone, whatever their directions, and 6 at both; a used byte of 255 is column 127,
+ * descending, and refused with 4. A query that passes them may still be refused with 8 when it is built. */
 uint32_t order_query_check(const uint8_t *query, size_t query_length);
 
-/* Interesting order i of a query. Value: its length in the lowest byte, then its columns, a byte each, the first one lowest, and 0 above them.
- * Refusals, in this order: 1 to 6; 10 when i is not below P + T. */
+/* Interesting order i of a query. Value: its length in the lowest byte, then its columns, a byte each, the first one lowest, and 0 above them. The
+ * bytes are those of the query, with ORDER_TABLE_DESCENDING added where a column is descending. Refusals, in this order: 1 to 6; 10 when i is not below
+ * P + T. */
 uint64_t order_query_order(const uint8_t *query, size_t query_length, uint8_t i);
 
 /* Dependency i of a query. Value: its set in the lowest byte, its kind in the next one, then its columns, a byte each, the first one lowest, and 0 above

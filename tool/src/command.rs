@@ -110,11 +110,11 @@ fn check(command: Command, arguments: &[OsString]) -> Result<(), Failure> {
 }
 
 /// The names in an argument, which must be written as they are read.
-fn names(
+fn names<N>(
     command: Command,
     argument: &OsStr,
-    read: impl Fn(&[u8]) -> Result<Vec<String>, TextError>,
-) -> Result<Vec<String>, Failure> {
+    read: impl Fn(&[u8]) -> Result<Vec<N>, TextError>,
+) -> Result<Vec<N>, Failure> {
     read(argument.as_encoded_bytes()).map_err(|error| {
         let argument = quoted(argument.to_string_lossy());
         let what = format!("in {argument}, character {}: {error}", error.column);

@@ -1,11 +1,11 @@
 //! Two rows that show why an order is not held, as a small table.
 
-use order_tables::{OrderHandle, SetChoice, TwoRows, TWO_ROWS_BYTES};
+use order_tables::{Direction, OrderHandle, SetChoice, TwoRows, TWO_ROWS_BYTES};
 
 use crate::failure::Failure;
 use crate::load::Loaded;
 use crate::near::one_of;
-use crate::query::{Order, Query};
+use crate::query::{Entry, Order, Query};
 use crate::refusals::refused;
 use crate::words::{joined, quoted};
 
@@ -13,11 +13,11 @@ use crate::words::{joined, quoted};
 #[derive(Clone, Debug, PartialEq, Eq)]
 pub struct Asked {
     /// The columns of the order that the rows are in.
-    pub produced: Vec<String>,
+    pub produced: Vec<Entry<String>>,
     /// The sets in force.
     pub sets: Vec<String>,
     /// The columns of the order looked for.
-    pub order: Vec<String>,
+    pub order: Vec<Entry<String>>,
 }
 
 /// The number of an order that no query has.
@@ -100,22 +100,20 @@ impl<'q> Found<'q> {
     }
 
     /// What two rows show: what they stand in and obey, and the first column of the order
-    /// looked for in which they differ.
+    /// looked for in which they differ. Each column is told with the way it compares.
     fn why(&self, TwoRows { first, second }: TwoRows) -> String {
-        let (_, columns) = self.order;
-        let differ = |&column: &usize| first[column] != second[column];
-        let place = columns.iter().position(differ);
+        let (_, entries) = self.order;
+        let differ = |entry: &Entry<usize>| first[entry.column] != second[entry.column];
+        let place = entries.iter().position(differ);
         let place = place.expect("rows that break an order differ in one of its columns");
-        let alike = columns[..place]
-            .iter()
-            .map(|&column| self.query.columns[column].clone());
+        let alike = entries[..place].iter().map(|entry| self.compared(entry));
         let alike = match &alike.collect::<Vec<String>>()[..] {
             [] => String::new(),
             alike => format!("they are alike in {}, and ", joined(alike, "and")),
         };
-        let differing = columns[place];
-        let name = &self.query.columns[differing];
-        let [one, other] = [first, second].map(|row| row[differing]);
+        let differing = &entries[place];
+        let name = self.compared(differing);
+        let [one, other] = [first, second].map(|row| row[differing.column]);
         let [produced, order] = self.orders();
         let obeying = match &self.sets[..] {
             [] => "with no set in force".to_owned(),
@@ -128,29 +126,41 @@ impl<'q> Found<'q> {
         ]
         .concat()
     }
+
+    /// A column with the way it compares, in a sentence.
+    fn compared(&self, entry: &Entry<usize>) -> String {
+        let way = match entry.direction {
+            Direction::Ascending => "ascending",
+            Direction::Descending => "descending",
+        };
+        format!("{} ({way})", self.query.columns[entry.column])
+    }
 }
 
 /// An order among some of the query's, with its number, or what would do.
 fn find_order<'q>(
     query: &Query,
-    names: &[String],
+    asked: &[Entry<String>],
     orders: &[&'q Order],
     what: &str,
 ) -> Result<(OrderHandle, &'q Order), String> {
-    let columns = names.iter().map(|name| {
+    let asked = asked.iter().map(|entry| {
+        let name = &entry.column;
         let column = query.columns.iter().position(|column| column == name);
-        column.ok_or_else(|| {
+        let column = column.ok_or_else(|| {
             let would_do = one_of(name, &query.columns, None);
             format!("{} is no column; {would_do} would do", quoted(name))
-        })
+        })?;
+        let direction = entry.direction;
+        Ok(Entry { column, direction })
     });
-    let columns = columns.collect::<Result<Order, String>>()?;
+    let asked = asked.collect::<Result<Order, String>>()?;
     let mut numbered = (0..).map(OrderHandle).zip(orders);
-    let found = numbered.find(|(_, order)| ***order == columns);
+    let found = numbered.find(|(_, order)| ***order == asked);
     found
         .map(|(handle, order)| (handle, *order))
         .ok_or_else(|| {
-            let asked = query.order_text(&columns);
+            let asked = query.order_text(&asked);
             let would_do = joined(&query.order_texts(orders.iter().copied()), "or");
             format!("{asked} is no {what}; {would_do} would do")
         })

@@ -26,8 +26,8 @@ A text names the columns, then the orders that are produced and tested, the most
 significant column first, then the dependencies, each with the set that brings it:
 
     columns time axis code
-    produced (time) (time, axis)
-    tested (time, code)
+    produced (time) (time desc, axis)
+    tested (time desc, code)    # descending in time: the largest one first
     set filter: time -> axis    # time settles axis; up to three columns may settle one
     set join: axis = code       # each row has one value in both
     set constant: -> axis       # all rows have one value
@@ -64,8 +64,8 @@ const COUNTEREXAMPLE: &str = "\
 Shows two rows that stand in PRODUCED, obey the sets in force and do not stand in ORDER.
 Where there are no such rows the answer begins with `none`: ORDER needs no sort.
 
-PRODUCED and ORDER are orders of the query in QUERY, as '(time, code)'. SETS are the
-names of the sets in force with commas between them, or `none`.
+PRODUCED and ORDER are orders of the query in QUERY, as '(time desc, code)'. SETS are
+the names of the sets in force with commas between them, or `none`.
 ";
 
 /// A command.

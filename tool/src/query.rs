@@ -1,11 +1,26 @@
 //! A query with the names of its columns and sets, to and from the query's bytes.
 
-use order_tables as proved;
+use order_tables::{self as proved, Direction};
+
+/// A column of an order, by its place among the names or by its name, and which way it
+/// compares.
+#[derive(Clone, Debug, PartialEq, Eq)]
+pub struct Entry<C> {
+    /// The column.
+    pub column: C,
+    /// Its direction.
+    pub direction: Direction,
+}
 
 /// An order: its columns, the most significant first. A column is its place among the
 /// names.
-pub type Order = Vec<usize>;
+pub type Order = Vec<Entry<usize>>;
 
+/// The word behind a column of an order, in any case, for the direction that it has
+/// anyway.
+pub const ASCENDING: &str = "asc";
+/// The word behind a column of an order, in any case, for the other direction.
+pub const DESCENDING: &str = "desc";
 /// How many columns an item has room for, a byte each, behind its head.
 pub const ITEM_COLUMNS: usize = 4;
 /// What unused bytes of an item hold.
@@ -55,12 +70,18 @@ impl Query {
     /// A query that was read from bytes. Its columns are called a, b, .. and its sets
     /// s0, s1, ..
     pub fn of(read: proved::Query) -> Self {
-        let places = |columns: &[u8]| columns.iter().copied().map(usize::from).collect();
+        let order = |order: proved::Order| {
+            let entries = order.iter().map(|entry| Entry {
+                column: entry.column.into(),
+                direction: entry.direction,
+            });
+            entries.collect()
+        };
         let dependencies = read.dependencies().map(|dependency| Dependency {
             set: dependency.set.0.into(),
             rule: match dependency.rule {
                 proved::Rule::Fix { left, right } => Rule::Fix {
-                    left: places(&left),
+                    left: left.iter().copied().map(usize::from).collect(),
                     right: right.into(),
                 },
                 proved::Rule::Equal(one, other) => Rule::Equal(one.into(), other.into()),
@@ -71,8 +92,8 @@ impl Query {
                 .take(read.columns().into())
                 .map(String::from)
                 .collect(),
-            produced: read.produced().map(|order| places(&order)).collect(),
-            tested: read.tested().map(|order| places(&order)).collect(),
+            produced: read.produced().map(order).collect(),
+            tested: read.tested().map(order).collect(),
             sets: (0..read.sets()).map(|set| format!("s{set}")).collect(),
             dependencies: dependencies.collect(),
         }
@@ -81,7 +102,13 @@ impl Query {
     /// The query's bytes, where no size is above 255. With more columns or sets than there
     /// may be, numbers of these are cut to a byte; then the sizes are refused before them.
     pub fn write(&self) -> Vec<u8> {
-        let orders = self.interesting().map(|order| (order.len(), order.clone()));
+        let orders = self.interesting().map(|order| {
+            let entries = order.iter().map(|entry| match entry.direction {
+                Direction::Ascending => entry.column,
+                Direction::Descending => entry.column + usize::from(proved::DESCENDING),
+            });
+            (order.len(), entries.collect())
+        });
         let dependencies = self.dependencies.iter().map(|Dependency { set, rule }| {
             let (kind, columns) = match rule {
                 Rule::Fix { left, right } => (left.len(), [&left[..], &[*right]].concat()),
@@ -129,8 +156,15 @@ impl Query {
     }
 
     /// An order as the text has it.
-    pub fn order_text(&self, order: &[usize]) -> String {
-        format!("({})", self.names(order))
+    pub fn order_text(&self, order: &[Entry<usize>]) -> String {
+        let entries = order.iter().map(|entry| {
+            let name = &self.columns[entry.column];
+            match entry.direction {
+                Direction::Ascending => name.clone(),
+                Direction::Descending => format!("{name} {DESCENDING}"),
+            }
+        });
+        format!("({})", entries.collect::<Vec<String>>().join(", "))
     }
 
     /// Some orders as the text has them.
@@ -144,15 +178,11 @@ impl Query {
         match rule {
             Rule::Fix { left, right } if left.is_empty() => format!("-> {}", self.columns[*right]),
             Rule::Fix { left, right } => {
-                format!("{} -> {}", self.names(left), self.columns[*right])
+                let left = left.iter().map(|&column| &self.columns[column][..]);
+                let left = left.collect::<Vec<&str>>().join(", ");
+                format!("{left} -> {}", self.columns[*right])
             }
             Rule::Equal(one, other) => format!("{} = {}", self.columns[*one], self.columns[*other]),
         }
-    }
-
-    /// The names of some columns, between commas.
-    fn names(&self, columns: &[usize]) -> String {
-        let names = columns.iter().map(|&column| &self.columns[column][..]);
-        names.collect::<Vec<&str>>().join(", ")
     }
 }

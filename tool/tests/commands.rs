@@ -13,7 +13,7 @@ use reference::program::{empty_folder, ended};
 use reference::random::Random;
 use reference::samples::{self, Shape};
 use reference::trials::repository;
-use reference::Query;
+use reference::{Entry, Query};
 
 /// What a run of the program gave.
 #[derive(Debug, PartialEq, Eq)]
@@ -80,6 +80,8 @@ fn folder(name: &str) -> PathBuf {
 
 const TEXT: &str = "examples/first.txt";
 const BYTES: &str = "examples/first.query";
+/// A query with descending columns.
+const NEWEST: &str = "examples/newest.txt";
 
 #[test]
 fn encodes_and_decodes() {
@@ -102,6 +104,24 @@ fn encodes_and_decodes() {
     assert_eq!(run(&["decode", TEXT]), Ended::printing(text));
 }
 
+#[test]
+fn encodes_and_decodes_directions() {
+    let bytes = "examples/newest.query";
+    assert_eq!(run(&["encode", NEWEST]), Ended::printing(file(bytes)));
+    let decoded =
+        "columns a b\nproduced (a desc)\ntested (a desc, b) (a desc, b desc) (a)\nset s0: a -> b\n";
+    assert_eq!(run(&["decode", bytes]), Ended::printing(decoded));
+    let text = "columns time axis\nproduced (time desc)\n\
+        tested (time desc, axis) (time desc, axis desc) (time)\nset filter: time -> axis\n";
+    assert_eq!(run(&["decode", NEWEST]), Ended::printing(text));
+    let shouted = text.replace("desc", "DESC").replace("axis)", "axis Asc)");
+    let written = run_with(&["decode", "-"], shouted.as_bytes());
+    assert_eq!(written, Ended::printing(text));
+}
+
+/// The words that the lines which FORMAT writes for SQL begin with.
+const SQL_LINES: [&str; 3] = ["produced ", "tested ", "set "];
+
 /// What FORMAT writes for SQL is a text's lines, one query in all for each row.
 #[test]
 fn encodes_the_lines_for_sql() {
@@ -115,7 +135,7 @@ fn encodes_the_lines_for_sql() {
         let quoted: Vec<&str> = row.split('`').skip(1).step_by(2).collect();
         let lines: Vec<&str> = quoted
             .into_iter()
-            .filter(|q| q.starts_with("set "))
+            .filter(|quoted| SQL_LINES.iter().any(|word| quoted.starts_with(word)))
             .collect();
         assert!(!lines.is_empty(), "{row}");
         let columns = "columns t.id t.time t.axis u.code u.name total";
@@ -126,7 +146,7 @@ fn encodes_the_lines_for_sql() {
         assert_eq!(ended.output.len(), 5 + 5 * (1 + lines.len()), "{text}");
         encoded += 1;
     }
-    assert_eq!(encoded, 7);
+    assert_eq!(encoded, 9);
 }
 
 #[test]
@@ -204,6 +224,15 @@ const REFUSED_QUERIES: &[(&[u8], &str)] = &[
         b"columns a\nproduced (a)\nset x: a = a",
         "5, repeat: a = a in line 3 has a column twice",
     ),
+    // A column in both directions is there twice; an order in both is another one.
+    (
+        b"columns a\nproduced (a) (a desc)\ntested (a DESC)",
+        "6, twin: (a desc) in line 3 is the same as (a desc) in line 2",
+    ),
+    (
+        b"columns a b\nproduced (b) (b desc)\ntested (a desc, b, a)",
+        "5, repeat: (a desc, b, a) in line 3 has a column twice",
+    ),
     // Of several items that are refused so, the first one is told.
     (
         b"columns a b\nproduced (a) (b)\ntested () (b) (a) (b, a)",
@@ -263,6 +292,18 @@ const REFUSED_QUERIES: &[(&[u8], &str)] = &[
             2, 1, 2, 0, 0, 1, 1, 1, 0, 255, 255, 255, 2, 255, 255, 255, 3, 255, 255, 255,
         ],
         "4, column: tested order 1 (head 1, bytes 2 255 255 255) has a column not below 2",
+    ),
+    (
+        &[2, 1, 1, 0, 0, 1, 1, 129, 255, 255, 255, 130, 255, 255, 255],
+        "4, column: tested order 1 (head 1, bytes 130 255 255 255) has a column not below 2",
+    ),
+    (
+        &[2, 1, 0, 1, 1, 1, 0, 128, 255, 255, 255, 128, 255, 255, 255],
+        "4, column: dependency 0 (head 0, bytes 128 255 255 255) has a column not below 2",
+    ),
+    (
+        &[2, 1, 0, 0, 0, 1, 255, 255, 255, 128],
+        "3, item: produced order 0 (head 1, bytes 255 255 255 128) has a length above 4 or an unused byte other than 255",
     ),
     (
         &[2, 1, 1, 0, 0, 1, 2, 0, 255, 255, 255, 1, 1, 255, 255],
@@ -400,7 +441,7 @@ first      0     1     0
 second     0     0     1
 
 These rows stand in (time), with no set in force, and do not stand in (time, axis):
-they are alike in time, and in axis the first has 1 and the second 0.
+they are alike in time (ascending), and in axis (ascending) the first has 1 and the second 0.
 So a sort by (time, axis) is needed.
 ";
 
@@ -413,6 +454,15 @@ const NOT_IN_THE_QUERY: &[([&str; 3], &str)] = &[
     (
         ["(code)", "none", "(time)"],
         "(code) is no produced order; (time) or (axis, time) would do",
+    ),
+    (
+        ["(time desc)", "none", "(time)"],
+        "(time desc) is no produced order; (time) or (axis, time) would do",
+    ),
+    (
+        ["(time asc)", "none", "(axis, time DESC)"],
+        "(axis, time desc) is no interesting order; \
+        (time), (axis, time), (time, axis) or (code) would do",
     ),
     (
         ["(time)", "join,fliter", "(time)"],
@@ -464,6 +514,66 @@ fn shows_two_rows_or_none() {
     }
 }
 
+/// What is said of two rows of the query with descending columns, behind their table.
+const DESCENDING_ROWS: &[([&str; 3], &str)] = &[
+    (
+        ["(time desc)", "none", "(time desc, axis desc)"],
+        "These rows stand in (time desc), with no set in force, and do not stand in \
+        (time desc, axis desc):\n\
+        they are alike in time (descending), and in axis (descending) the first has 0 and the \
+        second 1.\n\
+        So a sort by (time desc, axis desc) is needed.\n",
+    ),
+    (
+        ["(time DESC)", "filter", "(time asc)"],
+        "These rows stand in (time desc), obey filter, and do not stand in (time):\n\
+        in time (ascending) the first has 1 and the second 0.\n\
+        So a sort by (time) is needed.\n",
+    ),
+];
+
+#[test]
+fn shows_two_rows_of_descending_columns() {
+    for &([produced, sets, order], expected) in DESCENDING_ROWS {
+        let ended = run(&["counterexample", NEWEST, produced, sets, order]);
+        assert_eq!((ended.status, &ended.errors[..]), (0, ""), "{ended:?}");
+        let printed = String::from_utf8(ended.output).expect("text is printed");
+        let (_, said) = printed.split_once("\n\n").expect("a table comes first");
+        assert_eq!(said, expected);
+    }
+    let none = "none: all rows that stand in (time desc) and obey filter stand in \
+        (time desc, axis desc), and no sort is needed.\n";
+    let order = "(time desc, axis desc)";
+    let ended = run(&["counterexample", NEWEST, "(time desc)", "filter", order]);
+    assert_eq!(ended, Ended::printing(none));
+}
+
+#[test]
+fn explains_and_draws_and_verifies_descending_columns() {
+    let explained = "The table has 2 states for 1 produced order, 3 tested orders and 1 set.\n\n\
+        Entered by (time desc):\n  state 0, at the start, holds (time desc).\n  \
+        state 1, after filter, holds (time desc), (time desc, axis) and (time desc, axis desc).\n\n\
+        In state 0:\n  \
+        filter adds (time desc, axis) and (time desc, axis desc) and leads to state 1.\n\
+        In state 1:\n  filter changes nothing.\n\n(time) is never held.\n";
+    assert_eq!(run(&["explain", NEWEST]), Ended::printing(explained));
+    let drawn = String::from_utf8(run(&["draw", NEWEST]).output).expect("a graph is text");
+    for line in [
+        "    start_0 [shape=plaintext, label=\"produced (time desc)\"]\n",
+        "    state_1 [label=\"state 1\\n(time desc)\\n(time desc, axis)\\n(time desc, axis desc)\"]\n",
+    ] {
+        assert!(drawn.contains(line), "{drawn}");
+    }
+    // One state, which holds all four orders.
+    let table = [1, 1, 3, 1, 0, 0, 15, 0];
+    let what = "13, answer: entered by (time desc), at the start, \
+        it says that (time desc, axis) is held, which it is not, \
+        and that (time desc, axis desc) is held, which it is not, \
+        and that (time) is held, which it is not";
+    let ended = run_with(&["verify", NEWEST, "-"], &table);
+    assert_eq!(ended, refused("standard input", what));
+}
+
 #[test]
 fn helps() {
     assert_eq!(run(&["--help"]), Ended::printing(help::help()));
@@ -487,8 +597,9 @@ fn the_text_that_is_shown_for_help_is_read() {
     let help = help::Command::Encode.help();
     let text = help.lines().filter_map(|line| line.strip_prefix("    "));
     let text: String = text.flat_map(|line| [line, "\n"]).collect();
-    let decoded = "columns time axis code\nproduced (time) (time, axis)\ntested (time, code)\n\
-        set filter: time -> axis\nset join: axis = code\nset constant: -> axis\n";
+    let decoded = "columns time axis code\nproduced (time) (time desc, axis)\n\
+        tested (time desc, code)\nset filter: time -> axis\nset join: axis = code\n\
+        set constant: -> axis\n";
     let printed = run_with(&["decode", "-"], text.as_bytes());
     assert_eq!(printed, Ended::printing(decoded));
 }
@@ -517,7 +628,11 @@ const MISUSED: &[(&[&str], &str)] = &[
     ),
     (
         &["counterexample", "missing", "(time)", "none", "(time"],
-        "in `(time`, character 6: found the end; `,` or `)` would do",
+        "in `(time`, character 6: found the end; `desc`, `,` or `)` would do",
+    ),
+    (
+        &["counterexample", NEWEST, "(time desc desc)", "none", "(time)"],
+        "in `(time desc desc)`, character 12: found `desc`, a second direction; `,` or `)` would do",
     ),
 ];
 
@@ -623,10 +738,13 @@ fn endless_input() {
 }
 
 /// An order of a query in bytes, as it is written.
-fn order_text(order: Option<&Vec<u8>>) -> String {
-    let columns = order.expect("the query has the order").iter();
-    let names = columns.map(|column| char::from(b'a' + column).to_string());
-    format!("({})", names.collect::<Vec<String>>().join(", "))
+fn order_text(order: Option<&Vec<Entry>>) -> String {
+    let entries = order.expect("the query has the order").iter();
+    let entries = entries.map(|entry| {
+        let direction = if entry.descends { " desc" } else { "" };
+        format!("{}{direction}", char::from(b'a' + entry.column))
+    });
+    format!("({})", entries.collect::<Vec<String>>().join(", "))
 }
 
 /// All ways to run the program with a query, in a folder: with a table for it that is

@@ -7,7 +7,7 @@ use order_tables_tool::load::Loaded;
 use order_tables_tool::text;
 use reference::random::Random;
 use reference::samples::{self, Shape};
-use reference::{trials, Query, Rule};
+use reference::{trials, Entry, Query, Rule};
 
 /// The query of some bytes or of a text, called `query` in words.
 fn load(content: &[u8]) -> Result<Loaded, Failure> {
@@ -46,21 +46,30 @@ fn queries_come_back_from_their_texts() {
     let trials = trials::all().into_iter().map(|trial| trial.query);
     let queries = queries(&mut Random::new(1)).into_iter().chain(trials);
     let queries = queries.filter(|query| Query::read(query).is_ok());
-    let (mut all, mut with_all_sets) = (0, 0);
+    let (mut all, mut with_all_sets, mut descending) = (0, 0, 0);
     for query in queries {
         assert_comes_back(&query);
         let written = load(&query).map(|loaded| text::write(&loaded.query));
+        let has = |words: &str| usize::from(written.iter().any(|text| text.contains(words)));
         all += 1;
-        with_all_sets += usize::from(written.is_ok_and(|text| text.contains("\nsets ")));
+        with_all_sets += has("\nsets ");
+        descending += has(" desc");
+        assert_eq!(has(" asc"), 0, "{written:?}");
     }
-    assert!(all > 7000 && with_all_sets > 500, "{all} {with_all_sets}");
+    let counts = [all, with_all_sets, descending];
+    assert!(all > 7000 && with_all_sets > 500, "{counts:?}");
+    assert!(2 * descending >= all, "{counts:?}");
 }
 
-/// Names that differ, of which some are words of the text elsewhere.
-const NAMES: [&str; 14] = [
+/// Names that differ, of which some are words of the text elsewhere or begin so.
+const NAMES: [&str; 16] = [
     "time", "axis", "code", "t.time", "Time", "_", "columns", "set", "sets", "produced", "x1", "a",
-    "s0", "tested",
+    "s0", "tested", "desc_", "t.asc",
 ];
+/// What may stand behind an ascending column of an order.
+const ASCENDING: [&str; 6] = ["", "", "", " asc", "\tASC", " \tAsc"];
+/// What may stand behind a descending one.
+const DESCENDING: [&str; 4] = [" desc", "\tDESC", "  Desc", " dEsC"];
 
 /// So many names, in a random sequence.
 fn names(random: &mut Random, count: u8) -> Vec<&'static str> {
@@ -74,15 +83,27 @@ fn blank(random: &mut Random) -> &'static str {
     ["", "", " ", "  ", "\t"][random.below(5)]
 }
 
-/// Some columns' names with commas between them.
-fn listed(random: &mut Random, columns: &[u8], names: &[&str]) -> String {
+/// Some words with commas between them.
+fn listed(random: &mut Random, words: &[String]) -> String {
     let mut text = String::new();
-    for (place, &column) in columns.iter().enumerate() {
+    for (place, word) in words.iter().enumerate() {
         let comma = if place == 0 { "" } else { "," };
-        let (before, behind) = (blank(random), blank(random));
-        text += &[comma, before, names[usize::from(column)], behind].concat();
+        text += &[comma, blank(random), word, blank(random)].concat();
     }
     text
+}
+
+/// An order with these names, its directions in any case.
+fn order_text(random: &mut Random, order: &[Entry], names: &[&str]) -> String {
+    let entries = order.iter().map(|entry| {
+        let direction = match entry.descends {
+            true => DESCENDING[random.below(DESCENDING.len())],
+            false => ASCENDING[random.below(ASCENDING.len())],
+        };
+        format!("{}{direction}", names[usize::from(entry.column)])
+    });
+    let entries: Vec<String> = entries.collect();
+    format!("({})", listed(random, &entries))
 }
 
 /// A line of a text with a random end.
@@ -107,10 +128,10 @@ fn line(random: &mut Random, said: &str) -> String {
 /// The lines that say a query with these names: those of orders in one sequence, and
 /// those of dependencies in another.
 fn said(random: &mut Random, query: &Query, columns: &[&str], sets: &[&str]) -> [Vec<String>; 3] {
-    let mut orders = |word: &str, orders: &[Vec<u8>]| -> Vec<String> {
+    let mut orders = |word: &str, orders: &[Vec<Entry>]| -> Vec<String> {
         let lines = orders.iter().map(|order| {
-            let order = listed(random, order, columns);
-            format!("{word}{}({order})", blank(random))
+            let order = order_text(random, order, columns);
+            format!("{word}{}{order}", blank(random))
         });
         lines.collect()
     };
@@ -121,9 +142,11 @@ fn said(random: &mut Random, query: &Query, columns: &[&str], sets: &[&str]) -> 
     let dependencies = query.dependencies.iter().map(|dependency| {
         let rule = match &dependency.rule {
             Rule::Fix { left, right } => {
+                let left = left.iter().map(|&column| columns[usize::from(column)]);
+                let left: Vec<String> = left.map(str::to_owned).collect();
                 format!(
                     "{}->{}",
-                    listed(random, left, columns),
+                    listed(random, &left),
                     columns[usize::from(*right)]
                 )
             }
@@ -202,7 +225,8 @@ fn texts_are_refused_as_their_bytes_are() {
                 .dependencies
                 .extend((0..16).map(|_| reference::Dependency::fix(0, &[], 0))),
             _ => {
-                let repeated = vec![0, 0];
+                let repeated = [0, 0].map(|column| Entry::either(column)[random.below(2)]);
+                let repeated = repeated.to_vec();
                 query
                     .tested
                     .insert(random.below(query.tested.len() + 1), repeated);
@@ -282,6 +306,8 @@ fn changed(random: &mut Random, text: &str) -> Vec<u8> {
             b"\n",
             b" ",
             b"desc",
+            b" DESC ",
+            b" asc",
             b"\xff",
             b"set",
             b"a",
@@ -327,8 +353,10 @@ fn assert_in_text(failure: &Failure, text: &[u8]) {
         "{}",
         case()
     );
+    // Of a long line the last 60 characters before the error are shown, behind `..`.
+    let before = if column > 61 { 62 } else { column - 1 };
     let first_mark = marks.chars().position(|character| character == '^');
-    assert_eq!(first_mark, Some(column - 1), "{}", case());
+    assert_eq!(first_mark, Some(before), "{}", case());
 }
 
 #[test]

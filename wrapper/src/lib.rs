@@ -24,7 +24,7 @@ mod query;
 pub mod raw;
 mod refusal;
 
-pub use query::{Columns, Dependency, Query, Rule};
+pub use query::{Columns, Dependency, Direction, Entry, Listed, Order, Query, Rule, DESCENDING};
 pub use refusal::Refusal;
 use refusal::{granted, value};
 

@@ -69,8 +69,8 @@ pub fn query_check(query: &[u8]) -> u32 {
     unsafe { order_query_check(query.as_ptr(), query.len()) }
 }
 
-/// Interesting order i of a query: its length in the lowest byte, then its columns, a
-/// byte each.
+/// Interesting order i of a query: its length in the lowest byte, then its entries, a
+/// byte each, as the query has them.
 pub fn query_order(query: &[u8], i: u8) -> u64 {
     unsafe { order_query_order(query.as_ptr(), query.len(), i) }
 }

@@ -12,11 +12,12 @@ pub enum Refusal {
     /// Order length above 4, kind above 4, set not below S, or unused byte not
     /// 255.
     Item,
-    /// A column not below N.
+    /// A column not below N. A dependency's columns have no direction, so each byte of
+    /// 128 or more is one.
     Column,
-    /// A column twice in one order or one dependency.
+    /// A column twice in one order, whatever its directions, or in one dependency.
     Repeat,
-    /// Two equal interesting orders.
+    /// Two equal interesting orders, directions compared.
     Twin,
     /// Never given: its number and word stay in the list.
     Orderings,

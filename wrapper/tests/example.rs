@@ -1,7 +1,8 @@
 //! The types on the listing's example, and on trials that are refused or have a
 //! supplier's table.
 
-use order_tables::{build, counterexample, list, verify, Columns, Query, Rule};
+use order_tables::{build, counterexample, list, verify, Columns, Order, Query, Rule};
+use order_tables::{Direction, Entry, DESCENDING};
 use order_tables::{HeldWord, OrderHandle, Refusal, SetChoice, SetHandle, StateNumber, Table};
 use order_tables::{LISTING_BYTES, LONGEST_TABLE, SCRATCH_BYTES, TWO_ROWS_BYTES};
 use reference::counterexample::check;
@@ -10,6 +11,15 @@ use reference::{samples, trials, Dependency};
 
 fn build_in(query: &[u8], scratch: usize, output: usize) -> Result<usize, Refusal> {
     build(query, &mut vec![0; scratch], &mut vec![0; output])
+}
+
+/// An order in the second implementation's types.
+fn entries(order: Order) -> Vec<reference::Entry> {
+    let entries = order.iter().map(|entry| reference::Entry {
+        column: entry.column,
+        descends: entry.direction == Direction::Descending,
+    });
+    entries.collect()
 }
 
 /// A query as the library reads it, in the second implementation's types.
@@ -24,8 +34,8 @@ fn read(bytes: &[u8]) -> Result<reference::Query, Refusal> {
     });
     Ok(reference::Query {
         columns: query.columns(),
-        produced: query.produced().map(|order| order.to_vec()).collect(),
-        tested: query.tested().map(|order| order.to_vec()).collect(),
+        produced: query.produced().map(entries).collect(),
+        tested: query.tested().map(entries).collect(),
         sets: query.sets(),
         dependencies: dependencies.collect(),
     })
@@ -36,13 +46,40 @@ fn reads_queries() {
     let mut random = Random::new(1);
     let trials = trials::all().into_iter().map(|trial| trial.query);
     let random = (0..1000).map(|_| samples::any_query(&mut random));
-    let mut outcomes = [0; 2];
+    let (mut outcomes, mut descending) = ([0; 2], 0);
     for query in trials.chain(random) {
         let expected = reference::Query::read(&query);
         outcomes[usize::from(expected.is_ok())] += 1;
+        descending += usize::from(expected.as_ref().is_ok_and(reference::Query::descends));
         assert_eq!(read(&query).map_err(Refusal::number), expected, "{query:?}");
     }
     assert!(outcomes.iter().all(|&count| count > 100), "{outcomes:?}");
+    assert!(descending > 100, "{descending}");
+}
+
+#[test]
+fn reads_every_byte_of_an_order_and_of_a_dependency() {
+    for byte in 0..=255 {
+        // Twelve columns, one produced order of this byte, no dependency.
+        let query = [12, 1, 0, 0, 0, 1, byte, 255, 255, 255];
+        let order = Query::new(&query).and_then(|query| query.order(OrderHandle(0)));
+        let (column, direction) = match byte < DESCENDING {
+            true => (byte, Direction::Ascending),
+            false => (byte - DESCENDING, Direction::Descending),
+        };
+        match order {
+            Ok(order) => assert_eq!(*order, [Entry { column, direction }], "{byte}"),
+            Err(refusal) => assert_eq!(refusal, Refusal::Column, "{byte}"),
+        }
+        assert_eq!(order.is_ok(), column < 12, "{byte}");
+
+        // The empty order, and this byte as a constant in set 0.
+        let query = [
+            12, 1, 0, 1, 1, 0, 0, 255, 255, 255, 255, byte, 255, 255, 255,
+        ];
+        let refused = Query::new(&query).err();
+        assert_eq!(refused, (byte >= 12).then_some(Refusal::Column), "{byte}");
+    }
 }
 
 #[test]
@@ -51,7 +88,7 @@ fn reads_items_that_are_there() {
     for _ in 0..100 {
         let bytes = samples::query(&mut random, samples::Shape::FULL).write();
         let query = Query::new(&bytes).expect("not refused");
-        let orders: Vec<Columns> = query.produced().chain(query.tested()).collect();
+        let orders: Vec<Order> = query.produced().chain(query.tested()).collect();
         let dependencies: Vec<order_tables::Dependency> = query.dependencies().collect();
         for i in 0..=255 {
             let order = orders.get(usize::from(i)).copied();
@@ -78,8 +115,31 @@ fn columns_are_equal_where_those_that_are_there_are() {
             Rule::Equal(..) => panic!("no equal is there"),
         });
     let left: Vec<Columns> = left.collect();
-    let produced: Vec<Columns> = query.produced().collect();
-    assert_eq!(left, [produced[0]; 2]);
+    assert_eq!(*left[0], [0]);
+    assert_eq!(left[0], left[1]);
+}
+
+#[test]
+fn directions_tell_orders_apart() {
+    // Produced (a), tested (a desc) and (b).
+    let bytes = [
+        2, 1, 2, 0, 0, 1, 1, 1, 0, 255, 255, 255, 128, 255, 255, 255, 1, 255, 255, 255,
+    ];
+    let query = Query::new(&bytes).expect("not refused");
+    let orders: Vec<Order> = query.produced().chain(query.tested()).collect();
+    assert_eq!(orders[0][0].column, orders[1][0].column);
+    assert_ne!(orders[0], orders[1]);
+    let shown = shown_in(&bytes, [0, 0, 1], TWO_ROWS_BYTES);
+    assert_eq!(shown, Ok(true), "rows in (a) need not be in (a desc)");
+
+    // A column in both directions is there twice. An unused byte is looked at before a
+    // column.
+    let both = [1, 1, 0, 0, 0, 2, 0, 128, 255, 255];
+    assert_eq!(Query::new(&both), Err(Refusal::Repeat));
+    let twins = [1, 1, 1, 0, 0, 1, 1, 128, 255, 255, 255, 128, 255, 255, 255];
+    assert_eq!(Query::new(&twins), Err(Refusal::Twin));
+    let unused = [1, 1, 0, 0, 0, 1, 255, 128, 255, 255];
+    assert_eq!(Query::new(&unused), Err(Refusal::Item));
 }
 
 #[test]

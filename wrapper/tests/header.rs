@@ -1,8 +1,9 @@
 //! The wrapper declares the functions that the header declares, with the same
-//! parameters and results, and has its refusals and sizes. The library has its limits.
+//! parameters and results, and has its refusals, sizes and directions. The library has
+//! its limits.
 
 use order_tables::{Query, Refusal, Table, LISTING_BYTES, LONGEST_QUERY, LONGEST_TABLE};
-use order_tables::{SCRATCH_BYTES, TWO_ROWS_BYTES};
+use order_tables::{DESCENDING, SCRATCH_BYTES, TWO_ROWS_BYTES};
 
 const HEADER: &str = include_str!("../../include/order_tables.h");
 const RAW: &str = include_str!("../src/raw.rs");
@@ -110,6 +111,12 @@ fn the_header_and_the_wrapper_have_the_same_sizes() {
     ];
     let expected = expected.map(|(name, size)| (name.to_owned(), size));
     assert_eq!(enumerated("order_table_sizes"), expected);
+}
+
+#[test]
+fn the_header_and_the_wrapper_have_the_same_directions() {
+    let expected = [("DESCENDING".to_owned(), usize::from(DESCENDING))];
+    assert_eq!(enumerated("order_table_directions"), expected);
 }
 
 /// Whether a table of these sizes alone is refused for one of them, and not for its

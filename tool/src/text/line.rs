@@ -1,14 +1,15 @@
 //! A line of a text, token by token.
 
+use order_tables::Direction;
+
 use super::TextError;
+use crate::query::{ASCENDING, DESCENDING};
 use crate::words::{is_shown, quoted};
 
 /// What begins a comment, which goes to the line's end.
 const COMMENT: u8 = b'#';
 /// The tokens that are no names.
 const SIGNS: [&str; 6] = ["(", ")", ",", ":", "->", "="];
-/// The word that is no name, of a column or of a set.
-const RESERVED: &str = "desc";
 /// The most characters of a name.
 const MOST_CHARACTERS: usize = 64;
 
@@ -44,14 +45,25 @@ impl Token<'_> {
         matches!(self.kind, Kind::End(_))
     }
 
+    /// The direction that this is a word for, in any case. Such a word is reserved: it is
+    /// no name of a column or a set.
+    pub fn direction(self) -> Option<Direction> {
+        let is = |word: &str| self.text.eq_ignore_ascii_case(word);
+        match () {
+            _ if is(ASCENDING) => Some(Direction::Ascending),
+            _ if is(DESCENDING) => Some(Direction::Descending),
+            _ => None,
+        }
+    }
+
     /// That this was found where something else would do.
     pub fn instead_of(self, would_do: impl Into<String>) -> TextError {
         let found = match self.kind {
             Kind::Name | Kind::NoName if self.text.len() > MOST_CHARACTERS => {
                 format!("a word of {} characters", self.text.len())
             }
-            Kind::Name if self.text == RESERVED => {
-                format!("{}, which is reserved", quoted(RESERVED))
+            Kind::Name if self.direction().is_some() => {
+                format!("{}, which is reserved", quoted(self.text))
             }
             Kind::Name | Kind::Sign => quoted(self.text),
             Kind::End(called) => called.to_owned(),
@@ -159,7 +171,7 @@ impl<'t> Line<'t> {
     /// Reads the next token, which must be a name. Otherwise what would do is said.
     pub fn name(&mut self, would_do: &str) -> Result<Token<'t>, TextError> {
         let token = self.token();
-        if token.kind != Kind::Name || token.text == RESERVED {
+        if token.kind != Kind::Name || token.direction().is_some() {
             return Err(token.instead_of(would_do));
         }
         if token.text.len() > MOST_CHARACTERS {
@@ -168,6 +180,24 @@ impl<'t> Line<'t> {
         }
         self.pass(token);
         Ok(token)
+    }
+
+    /// Reads the next token, if it is a word for a direction.
+    pub fn direction(&mut self) -> Option<Direction> {
+        let token = self.token();
+        let direction = token.direction();
+        if direction.is_some() {
+            self.pass(token);
+        }
+        direction
+    }
+
+    /// Says this of a direction and what would do, if a direction comes next.
+    pub fn no_direction(&self, is: &str, would_do: &str) -> Result<(), TextError> {
+        match self.token() {
+            word if word.direction().is_some() => Err(word.which(is, would_do)),
+            _ => Ok(()),
+        }
     }
 
     /// Says what would do, if the end does not come next.

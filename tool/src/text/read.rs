@@ -3,7 +3,7 @@
 use super::line::{Line, Token};
 use super::{TextError, MOST_BYTES};
 use crate::near::one_of;
-use crate::query::{Dependency, Order, Query, Rule, ITEM_COLUMNS};
+use crate::query::{Dependency, Entry, Order, Query, Rule, ITEM_COLUMNS};
 use crate::sizes::Size;
 
 /// What is said for no sets, so that no set has this name.
@@ -13,6 +13,8 @@ const MOST_LEFT: usize = ITEM_COLUMNS - 1;
 /// The most columns, orders of a kind, sets or dependencies that a size can count. A query
 /// may have fewer, of which the proved library judges.
 const MOST_COUNTED: usize = u8::MAX as usize;
+/// What is said of a direction behind a dependency's column.
+const IN_DEPENDENCY: &str = "but a dependency has no direction";
 /// The words that a line begins with, but for `columns` before the others.
 const STATEMENTS: [&str; 4] = ["produced", "tested", "sets", "set"];
 
@@ -49,8 +51,8 @@ pub fn read(text: &[u8]) -> Result<Text, TextError> {
     Ok(reader.text())
 }
 
-/// The columns that an order names which stands alone, as `(time, code)`.
-pub fn order_names(argument: &[u8]) -> Result<Vec<String>, TextError> {
+/// The columns that an order names which stands alone, as `(time desc, code)`.
+pub fn order_names(argument: &[u8]) -> Result<Vec<Entry<String>>, TextError> {
     let mut line = Line::of_argument(argument);
     let names = order(&mut line, |_, name| Ok(name.text.to_owned()))?;
     line.end("nothing behind the order")?;
@@ -135,7 +137,9 @@ impl Reader {
         line.sign(":", "`:`")?;
         let columns = self.columns.as_deref().unwrap_or_default();
         let rule = rule(&mut line, columns)?;
-        line.end("the end of the line")?;
+        let would_do = "the end of the line";
+        line.no_direction(IN_DEPENDENCY, would_do)?;
+        line.end(would_do)?;
         Ok(Dependency { set, rule })
     }
 
@@ -206,22 +210,34 @@ fn orders(
     Ok(())
 }
 
-/// An order: columns between parentheses, each read from its place and its name.
+/// An order: columns between parentheses, each read from its place and its name, and its
+/// direction behind it.
 fn order<'t, C>(
     line: &mut Line<'t>,
     column: impl Fn(usize, Token<'t>) -> Result<C, TextError>,
-) -> Result<Vec<C>, TextError> {
+) -> Result<Vec<Entry<C>>, TextError> {
     line.sign("(", "an order in parentheses")?;
-    let mut columns = Vec::new();
+    let mut entries = Vec::new();
     if line.takes(")") {
-        return Ok(columns);
+        return Ok(entries);
     }
-    columns.push(column(0, line.name("a column or `)`")?)?);
-    while line.takes(",") {
-        columns.push(column(columns.len(), line.name("a column")?)?);
+    let mut a_column = "a column or `)`";
+    loop {
+        let column = column(entries.len(), line.name(a_column)?)?;
+        let said = line.direction();
+        let direction = said.unwrap_or_default();
+        entries.push(Entry { column, direction });
+        if !line.takes(",") {
+            let would_do = match said {
+                None => "`desc`, `,` or `)`",
+                Some(_) => "`,` or `)`",
+            };
+            line.no_direction("a second direction", would_do)?;
+            line.sign(")", would_do)?;
+            return Ok(entries);
+        }
+        a_column = "a column";
     }
-    line.sign(")", "`,` or `)`")?;
-    Ok(columns)
 }
 
 /// A dependency: a fix or an equal.
@@ -245,6 +261,7 @@ fn rule(line: &mut Line, columns: &[String]) -> Result<Rule, TextError> {
             MOST_LEFT => "`->`",
             _ => "`->` or `,`",
         };
+        line.no_direction(IN_DEPENDENCY, would_do)?;
         line.sign("->", would_do)?;
     }
     let right = column(line.name("a column")?, columns)?;

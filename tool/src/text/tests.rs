@@ -1,21 +1,29 @@
 //! Texts that are read, and bad input of every kind.
 
+use order_tables::Direction::{self, Ascending, Descending};
+
 use super::{
     is_text, looks_like_text, order_names, read, set_names, write, Text, TextError, MOST_BYTES,
 };
-use crate::query::{Dependency, Query, Rule};
+use crate::query::{Dependency, Entry, Order, Query, Rule};
 
 /// The document that has the grammar.
 const FORMAT: &str = include_str!("../../../docs/FORMAT.md");
 /// Its example.
 const EXAMPLE: &str = "\
 columns time axis code
-produced (time) (time, axis)
-tested (time, code)
+produced (time) (time desc, axis)
+tested (time desc, code)
 set filter: time -> axis
 set join: axis = code
 set constant: -> axis
 ";
+
+/// An order of these columns with these directions.
+fn order<const N: usize>(entries: [(usize, Direction); N]) -> Order {
+    let entries = entries.map(|(column, direction)| Entry { column, direction });
+    entries.to_vec()
+}
 
 fn fix(set: usize, left: &[usize], right: usize) -> Dependency {
     let left = left.to_vec();
@@ -36,8 +44,11 @@ fn names(names: &[&str]) -> Vec<String> {
 fn example() -> Query {
     Query {
         columns: names(&["time", "axis", "code"]),
-        produced: vec![vec![0], vec![0, 1]],
-        tested: vec![vec![0, 2]],
+        produced: vec![
+            order([(0, Ascending)]),
+            order([(0, Descending), (1, Ascending)]),
+        ],
+        tested: vec![order([(0, Descending), (2, Ascending)])],
         sets: names(&["filter", "join", "constant"]),
         dependencies: vec![fix(0, &[0], 1), equal(1, 1, 2), fix(2, &[], 1)],
     }
@@ -89,8 +100,8 @@ fn blanks_and_comments_count_for_nothing() {
     let text = "# produced (x)\n\
         columns\ttime axis  code#columns\r\n\
         \n   \t \r\n\
-        produced(time)(time,axis) # (\u{e9}\u{7}\n\
-        tested ( time , code )\n  set filter:time->axis\nset join :axis=code\n\
+        produced(time)(time desc,axis) # (\u{e9}\u{7}\n\
+        tested ( time\tdesc , code )\n  set filter:time->axis\nset join :axis=code\n\
         set constant : -> axis # the last line has no end";
     assert_eq!(read_query(text), example());
     let no_text = read(b"columns a # \xff\xfe\nproduced (a)");
@@ -99,12 +110,45 @@ fn blanks_and_comments_count_for_nothing() {
 
 #[test]
 fn orders_may_stand_in_several_lines_and_among_sets() {
-    let text = "columns time axis code\nset filter: time -> axis\ntested (time, code)\n\
-        produced (time)\nset join: axis = code\nproduced (time, axis)\nproduced\ntested\n\
+    let text = "columns time axis code\nset filter: time -> axis\ntested (time desc, code)\n\
+        produced (time)\nset join: axis = code\nproduced (time desc, axis)\nproduced\ntested\n\
         set constant: -> axis";
     let lines = vec![4, 6, 3, 2, 5, 9];
     let query = example();
     assert_eq!(read(text.as_bytes()), Ok(Text { query, lines }));
+}
+
+#[test]
+fn directions_are_read_in_any_case_and_one_of_them_is_written() {
+    let text = "columns a b\nproduced (a desc, b) (a DESC) (b Desc,a dEsC)\n\
+        tested (a asc) (b ASC, a Asc)( b\tdesc , a aSc )\n";
+    let [a, b] = [0, 1].map(|column| move |direction| (column, direction));
+    let query = read_query(text);
+    let produced = [
+        order([a(Descending), b(Ascending)]),
+        order([a(Descending)]),
+        order([b(Descending), a(Descending)]),
+    ];
+    assert_eq!(query.produced, produced);
+    let tested = [
+        order([a(Ascending)]),
+        order([b(Ascending), a(Ascending)]),
+        order([b(Descending), a(Ascending)]),
+    ];
+    assert_eq!(query.tested, tested);
+    let written = "columns a b\nproduced (a desc, b) (a desc) (b desc, a desc)\n\
+        tested (a) (b, a) (b desc, a)\n";
+    assert_eq!(write(&query), written);
+    assert_eq!(read_query(written), query);
+}
+
+#[test]
+fn a_direction_adds_128_to_a_columns_byte() {
+    let query = read_query("columns a b\nproduced (b desc, a) (b asc)\nset x: b -> a");
+    let expected = [
+        2, 2, 0, 1, 1, 2, 1, 16, 129, 0, 255, 255, 1, 255, 255, 255, 1, 0, 255, 255,
+    ];
+    assert_eq!(query.write(), expected);
 }
 
 #[test]
@@ -154,6 +198,9 @@ fn names_have_letters_digits_lines_and_dots() {
     let query = read_query("columns _ A9 t.time_2 none set columns\nset sets: _ -> set");
     let expected = ["_", "A9", "t.time_2", "none", "set", "columns"];
     assert_eq!(query.columns, expected);
+    let nearly = read_query("columns desc_ t.desc descending asc. ascend");
+    let expected = ["desc_", "t.desc", "descending", "asc.", "ascend"];
+    assert_eq!(nearly.columns, expected);
     assert_eq!(query.sets, ["sets"]);
     assert_eq!(query.dependencies, [fix(0, &[0], 4)]);
 }
@@ -167,6 +214,9 @@ fn empty_orders_lists_and_texts() {
 
 /// Every word that a line may begin with behind `columns`.
 const ANY_STATEMENT: &str = "`produced`, `tested`, `sets` or `set`";
+
+/// What would do behind a column of an order that has no direction yet.
+const BEHIND_COLUMN: &str = "`desc`, `,` or `)`";
 
 /// Bad input behind these lines.
 const BEFORE: &str = "columns time axis code\nproduced (time)\n";
@@ -195,7 +245,7 @@ const BAD_LINES: &[(&str, usize, &str, &str)] = &[
     ),
     // Characters.
     ("tested (time);", 14, "`;`", "an order in parentheses"),
-    ("tested (time;axis)", 13, "`;`", "`,` or `)`"),
+    ("tested (time;axis)", 13, "`;`", BEHIND_COLUMN),
     ("tested (\u{e9})", 9, "`\u{e9}`", "a column or `)`"),
     (
         "tested (\u{20ac}\u{20ac})",
@@ -209,7 +259,7 @@ const BAD_LINES: &[(&str, usize, &str, &str)] = &[
         "the character U+00A0",
         "an order in parentheses",
     ),
-    ("tested (time\u{7})", 13, "the byte 7", "`,` or `)`"),
+    ("tested (time\u{7})", 13, "the byte 7", BEHIND_COLUMN),
     (
         "tested (time)\r(axis)",
         14,
@@ -245,17 +295,32 @@ const BAD_LINES: &[(&str, usize, &str, &str)] = &[
         "`,`",
         "an order in parentheses",
     ),
-    ("tested (time", 13, "the end of the line", "`,` or `)`"),
-    ("tested (time # )", 13, "the end of the line", "`,` or `)`"),
-    ("tested (time axis)", 14, "`axis`", "`,` or `)`"),
+    ("tested (time", 13, "the end of the line", BEHIND_COLUMN),
+    ("tested (time # )", 13, "the end of the line", BEHIND_COLUMN),
+    ("tested (time axis)", 14, "`axis`", BEHIND_COLUMN),
     ("tested (time,)", 14, "`)`", "a column"),
     ("tested (,time)", 9, "`,`", "a column or `)`"),
     ("tested (", 9, "the end of the line", "a column or `)`"),
     ("tested ((time))", 9, "`(`", "a column or `)`"),
+    // Directions.
     (
-        "tested (time desc)",
+        "tested (time descending)",
         14,
-        "`desc`, which is reserved",
+        "`descending`",
+        BEHIND_COLUMN,
+    ),
+    ("tested (time desc axis)", 19, "`axis`", "`,` or `)`"),
+    ("tested (time desc", 18, "the end of the line", "`,` or `)`"),
+    (
+        "tested (time desc desc)",
+        19,
+        "`desc`, a second direction",
+        "`,` or `)`",
+    ),
+    (
+        "tested (time, axis asc DESC, code)",
+        24,
+        "`DESC`, a second direction",
         "`,` or `)`",
     ),
     (
@@ -263,6 +328,55 @@ const BAD_LINES: &[(&str, usize, &str, &str)] = &[
         9,
         "`desc`, which is reserved",
         "a column or `)`",
+    ),
+    (
+        "tested (time, Asc)",
+        15,
+        "`Asc`, which is reserved",
+        "a column",
+    ),
+    (
+        "tested (desc time)",
+        9,
+        "`desc`, which is reserved",
+        "a column or `)`",
+    ),
+    (
+        "tested (time) desc",
+        15,
+        "`desc`, which is reserved",
+        "an order in parentheses",
+    ),
+    ("desc (time)", 1, "`desc`, which is reserved", ANY_STATEMENT),
+    (
+        "set x: time desc -> axis",
+        13,
+        "`desc`, but a dependency has no direction",
+        "`->`, `=` or `,`",
+    ),
+    (
+        "set x: time asc = axis",
+        13,
+        "`asc`, but a dependency has no direction",
+        "`->`, `=` or `,`",
+    ),
+    (
+        "set x: time, axis DESC -> code",
+        19,
+        "`DESC`, but a dependency has no direction",
+        "`->` or `,`",
+    ),
+    (
+        "set x: time -> axis desc",
+        21,
+        "`desc`, but a dependency has no direction",
+        "the end of the line",
+    ),
+    (
+        "set x: time = axis Desc",
+        20,
+        "`Desc`, but a dependency has no direction",
+        "the end of the line",
     ),
     (
         "tested (time, axis, code, time, tme)",
@@ -358,6 +472,18 @@ const BAD_LINES: &[(&str, usize, &str, &str)] = &[
         "`desc`, which is reserved",
         "a column",
     ),
+    (
+        "set x: ASC -> time",
+        8,
+        "`ASC`, which is reserved",
+        "a column or `->`",
+    ),
+    (
+        "set Asc: time -> axis",
+        5,
+        "`Asc`, which is reserved",
+        "the name of a set",
+    ),
     // The line of all sets.
     ("sets x, y", 7, "`,`", "a name or the end of the line"),
     (
@@ -370,6 +496,12 @@ const BAD_LINES: &[(&str, usize, &str, &str)] = &[
         "sets desc",
         6,
         "`desc`, which is reserved",
+        "a name or the end of the line",
+    ),
+    (
+        "sets x aSC",
+        8,
+        "`aSC`, which is reserved",
         "a name or the end of the line",
     ),
     (
@@ -417,6 +549,12 @@ const BAD_TEXTS: &[(&str, (usize, usize), &str, &str)] = &[
         "columns time desc",
         (1, 14),
         "`desc`, which is reserved",
+        "a name or the end of the line",
+    ),
+    (
+        "columns ASC time",
+        (1, 9),
+        "`ASC`, which is reserved",
         "a name or the end of the line",
     ),
     (
@@ -618,7 +756,7 @@ fn an_error_is_shown_with_its_line_and_marks() {
 
     // A tab has the place of one blank.
     let text = "columns\ta\n\tproduced\t(a\r\n";
-    let expected = "q.txt:2:13: found the end of the line; `,` or `)` would do\n \
+    let expected = "q.txt:2:13: found the end of the line; `desc`, `,` or `)` would do\n \
         produced (a\n            ^";
     assert_eq!(shown(text), expected);
 
@@ -655,12 +793,23 @@ fn of_a_long_line_the_part_around_the_error_is_shown() {
 
 #[test]
 fn orders_and_sets_that_stand_alone() {
-    let order = |argument: &str| order_names(argument.as_bytes());
-    assert_eq!(order("()"), Ok(vec![]));
-    assert_eq!(order("(time, code)"), Ok(names(&["time", "code"])));
+    let named = |entry: Entry<String>| (entry.column, entry.direction);
+    let order = |argument: &str| -> Vec<(String, Direction)> {
+        let order = order_names(argument.as_bytes());
+        let order = order.unwrap_or_else(|error| panic!("{argument}: {error}"));
+        order.into_iter().map(named).collect()
+    };
+    let with = |direction| move |name: &str| (name.to_owned(), direction);
+    let (ascending, descending) = (with(Ascending), with(Descending));
+    assert_eq!(order("()"), []);
+    assert_eq!(order("(time, code)"), ["time", "code"].map(ascending));
     assert_eq!(
         order(" ( a,b,c,d,e ) "),
-        Ok(names(&["a", "b", "c", "d", "e"]))
+        ["a", "b", "c", "d", "e"].map(ascending)
+    );
+    assert_eq!(
+        order("(time desc, code asc,axis DESC)"),
+        [descending("time"), ascending("code"), descending("axis")]
     );
     let sets = |argument: &str| set_names(argument.as_bytes());
     assert_eq!(sets("none"), Ok(vec![]));
@@ -674,8 +823,9 @@ fn orders_and_sets_that_stand_alone() {
 
 #[test]
 fn bad_orders_and_sets_that_stand_alone() {
-    type Read = fn(&[u8]) -> Result<Vec<String>, TextError>;
-    let (order, sets): (Read, Read) = (order_names, set_names);
+    type Read = fn(&[u8]) -> Option<TextError>;
+    let order: Read = |argument| order_names(argument).err();
+    let sets: Read = |argument| set_names(argument).err();
     for (read, argument, column, found, would_do) in [
         (order, "", 1, "the end", "an order in parentheses"),
         (
@@ -687,10 +837,25 @@ fn bad_orders_and_sets_that_stand_alone() {
         ),
         (order, "-", 1, "`-`", "an order in parentheses"),
         (order, "time", 1, "`time`", "an order in parentheses"),
-        (order, "(time", 6, "the end", "`,` or `)`"),
+        (order, "(time", 6, "the end", BEHIND_COLUMN),
+        (order, "(time desc", 11, "the end", "`,` or `)`"),
         (order, "(time) (axis)", 8, "`(`", "nothing behind the order"),
         (order, "(time)#x", 7, "`#`", "nothing behind the order"),
-        (order, "(time\n)", 6, "the byte 10", "`,` or `)`"),
+        (order, "(time\n)", 6, "the byte 10", BEHIND_COLUMN),
+        (
+            order,
+            "(time desc ASC)",
+            12,
+            "`ASC`, a second direction",
+            "`,` or `)`",
+        ),
+        (
+            order,
+            "(time) desc",
+            8,
+            "`desc`, which is reserved",
+            "nothing behind the order",
+        ),
         (
             order,
             "(desc)",
@@ -725,7 +890,7 @@ fn bad_orders_and_sets_that_stand_alone() {
             "`none` or a set",
         ),
     ] {
-        let error = read(argument.as_bytes()).expect_err(argument);
+        let error = read(argument.as_bytes()).expect(argument);
         let said = (
             error.line,
             error.column,

@@ -6,10 +6,10 @@ use reference::counterexample::{check_printed, Asked, Question};
 use reference::random::Random;
 use reference::refusal::{HANDLE, STATES};
 use reference::samples::{self, Shape};
-use reference::{trials, Query};
+use reference::{trials, Entry, Query};
 
 use crate::refused::check_query_refused;
-use crate::words::{column_name, column_names, listed, order_text, order_texts, set_names};
+use crate::words::{column_name, listed, order_text, order_texts, set_names};
 use crate::{is_taken_for_text, tool, STANDARD_INPUT, WORDS};
 
 /// What the tool shows for an order looked for.
@@ -22,7 +22,7 @@ struct Named<'q> {
     query: &'q Query,
     produced: String,
     sets: Vec<String>,
-    order: &'q [u8],
+    order: &'q [Entry],
 }
 
 impl<'q> Named<'q> {
@@ -39,14 +39,14 @@ impl<'q> Named<'q> {
         }
     }
 
-    /// The arguments that ask for this, with commas written so.
-    fn arguments(&self, comma: &str) -> [String; 3] {
+    /// The arguments that ask for this, with commas and descending columns written so.
+    fn arguments(&self, comma: &str, desc: &str) -> [String; 3] {
         let sets = match self.sets.is_empty() {
             true => "none".to_owned(),
             false => self.sets.join(", "),
         };
         let arguments = [self.produced.clone(), sets, order_text(self.order)];
-        arguments.map(|argument| argument.replace(", ", comma))
+        arguments.map(|argument| argument.replace(" desc", desc).replace(", ", comma))
     }
 
     /// What is printed where the order is held.
@@ -81,20 +81,34 @@ impl<'q> Named<'q> {
         )
     }
 
-    /// In which column of the order the first row belongs behind the second.
+    /// In which column of the order the first row belongs behind the second: there it has
+    /// the larger value where the column ascends, and the smaller one where it descends.
     fn why(&self, [first, second]: &[Vec<String>; 2]) -> String {
-        let is_alike = |&&column: &&u8| first[usize::from(column)] == second[usize::from(column)];
+        let is_alike = |entry: &&Entry| {
+            let [one, other] = [first, second].map(|row| &row[usize::from(entry.column)]);
+            one == other
+        };
         let alike = self.order.iter().take_while(is_alike).count();
         let (alike, behind) = self.order.split_at(alike);
-        let why = format!(
-            "in {} the first has 1 and the second 0.",
-            column_name(behind[0])
-        );
-        match listed(column_names(alike), "and") {
+        let values = match behind[0].descends {
+            false => "the first has 1 and the second 0",
+            true => "the first has 0 and the second 1",
+        };
+        let why = format!("in {} {values}.", told(&behind[0]));
+        match listed(alike.iter().map(told).collect(), "and") {
             none if none.is_empty() => why,
             alike => format!("they are alike in {alike}, and {why}"),
         }
     }
+}
+
+/// A column, and which way it compares.
+fn told(entry: &Entry) -> String {
+    let way = match entry.descends {
+        false => "ascending",
+        true => "descending",
+    };
+    format!("{} ({way})", column_name(entry.column))
 }
 
 /// The values of two rows that are shown, behind the heads of their lines; none where
@@ -113,7 +127,9 @@ fn values_in(shown: &str) -> Option<[Vec<String>; 2]> {
 fn compare_asked(random: &mut Random, query: &Query, asked: Asked) -> bool {
     let (bytes, case) = (query.write(), format!("{asked:?} {query:?}"));
     let named = Named::new(random, query, asked);
-    let arguments = named.arguments([", ", ",", " ,\t "][random.below(3)]);
+    let comma = [", ", ",", " ,\t "][random.below(3)];
+    let desc = [" desc", "\tDESC", "  Desc"][random.below(3)];
+    let arguments = named.arguments(comma, desc);
     let given = counterexample(&bytes, arguments.each_ref().map(String::as_str));
     let given = given.unwrap_or_else(|failure| panic!("{failure:?} {case}"));
 
@@ -132,10 +148,15 @@ fn compare_asked(random: &mut Random, query: &Query, asked: Asked) -> bool {
 #[test]
 fn two_rows_or_none() {
     let mut random = Random::new(8);
-    let mut shown = [0; 2];
+    let (mut shown, mut queries, mut descending) = ([0; 2], 0, 0);
+    let mut count_in = |query: &Query| {
+        queries += 1;
+        descending += usize::from(query.descends());
+    };
     for (shape, count) in [(Shape::SMALL, 80), (Shape::CHAINS, 80), (Shape::MIDDLE, 2)] {
         for _ in 0..count {
             let query = samples::query_of_chains(&mut random, shape);
+            count_in(&query);
             for asked in samples::all_asked(&query) {
                 shown[usize::from(compare_asked(&mut random, &query, asked))] += 1;
             }
@@ -148,6 +169,7 @@ fn two_rows_or_none() {
             0 => samples::query(&mut random, Shape::LARGEST),
             _ => samples::query_of_chains(&mut random, Shape::FULL),
         };
+        count_in(&query);
         without_table += usize::from(table_of(&query.write()) == Err(STATES));
         let mut all: Vec<Asked> = samples::all_asked(&query).collect();
         random.shuffle(&mut all);
@@ -156,15 +178,23 @@ fn two_rows_or_none() {
         }
     }
     let [none, two_rows] = shown;
-    println!("{two_rows} two rows, {none} none; {without_table} queries without a table");
+    println!(
+        "{two_rows} two rows, {none} none; of {queries} queries {descending} have descending \
+         columns, {without_table} no table"
+    );
     assert!(two_rows > 2000 && none > 2000 && without_table > 5);
+    assert!(2 * descending >= queries);
 }
 
 /// An order that is not among these: any one, or else one that has a column twice.
 fn order_not_among(random: &mut Random, query: &Query, orders: &[String]) -> String {
-    let any = order_text(&samples::some_columns(random, query.columns, (0, 5)));
+    let columns = samples::some_columns(random, query.columns, (0, 5));
+    let any = columns
+        .iter()
+        .map(|&column| Entry::either(column)[random.below(2)]);
+    let any = order_text(&any.collect::<Vec<Entry>>());
     match orders.contains(&any) {
-        true => order_text(&[0, 0]),
+        true => order_text(&Entry::either(0)),
         false => any,
     }
 }
@@ -213,7 +243,8 @@ fn orders_and_sets_that_are_not_in_the_query() {
     for round in 0..1000 {
         let query = samples::query(&mut random, [Shape::SMALL, Shape::FULL][round % 2]);
         let bytes = query.write();
-        let mut arguments = Named::new(&mut random, &query, Asked::default()).arguments(", ");
+        let named = Named::new(&mut random, &query, Asked::default());
+        let mut arguments = named.arguments(", ", " desc");
         let what = ask_for_another(&mut random, &query, &mut arguments);
         let given = counterexample(&bytes, arguments.each_ref().map(String::as_str));
         let words = format!("{STANDARD_INPUT}: refused {HANDLE}, handle: {what}");
@@ -249,14 +280,33 @@ fn two_rows_of_refused_queries() {
 }
 
 /// Arguments that are no order.
-const NO_ORDERS: [&str; 14] = [
-    "", " ", "a", "a, b", "(a", "a)", "(a b)", "(a,)", "(,a)", "(a))", "(a) (b)", "[a]", "(0)", "2",
+const NO_ORDERS: [&str; 20] = [
+    "",
+    " ",
+    "a",
+    "a, b",
+    "(a",
+    "a)",
+    "(a b)",
+    "(a,)",
+    "(,a)",
+    "(a))",
+    "(a) (b)",
+    "[a]",
+    "(0)",
+    "2",
+    "(desc)",
+    "(Asc)",
+    "(desc a)",
+    "(a desc asc)",
+    "(a) desc",
+    "(a DESC",
 ];
 
 /// Arguments that are no list of sets.
-const NO_SETS: [&str; 13] = [
+const NO_SETS: [&str; 16] = [
     "", " ", "s0 s1", "s0,", ",s0", "s0,,s1", "none,s0", "none s0", "s0,none", "(s0)", "s0;s1",
-    "0", "3",
+    "0", "3", "desc", "s0,ASC", "s0 desc",
 ];
 
 #[test]

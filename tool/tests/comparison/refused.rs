@@ -110,11 +110,14 @@ impl Item<'_> {
         let Some((used, unused)) = used.and_then(|used| self.bytes.split_at_checked(used)) else {
             return Some(ITEM);
         };
-        let is_twice = |place: usize| used[..place].contains(&used[place]);
+        // Only in an order 128 is added to a column, where it descends.
+        let modulus = if self.is_order() { 128 } else { 256 };
+        let named: Vec<u16> = used.iter().map(|&byte| u16::from(byte) % modulus).collect();
+        let is_twice = |place: usize| named[..place].contains(&named[place]);
         match () {
             _ if unused.iter().any(|&byte| byte != 255) => Some(ITEM),
-            _ if used.iter().any(|&column| column >= columns) => Some(COLUMN),
-            _ if (0..used.len()).any(is_twice) => Some(REPEAT),
+            _ if named.iter().any(|&column| column >= columns.into()) => Some(COLUMN),
+            _ if (0..named.len()).any(is_twice) => Some(REPEAT),
             _ => None,
         }
     }

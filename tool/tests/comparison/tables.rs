@@ -185,6 +185,12 @@ fn printed(command: &str, queries: &[Vec<u8>]) -> (Vec<(String, Expected)>, usiz
     (printed, refused)
 }
 
+/// How many of the queries have descending columns.
+fn descending(printed: &[(String, Expected)]) -> usize {
+    let queries = printed.iter().map(|(_, expected)| &expected.query);
+    queries.filter(|query| query.descends()).count()
+}
+
 #[test]
 fn tables_in_words() {
     let (printed, refused) = printed("explain", &queries(&mut Random::new(1), 100));
@@ -193,9 +199,13 @@ fn tables_in_words() {
         assert_eq!(*given, expected.explained(), "{:?}", expected.query);
         runs += expected.runs.iter().flatten().count();
     }
-    let tables = printed.len();
-    println!("{tables} tables in words with {runs} runs, {refused} queries refused");
+    let (tables, descending) = (printed.len(), descending(&printed));
+    println!(
+        "{tables} tables in words with {runs} runs, {descending} of them with descending columns, \
+         {refused} queries refused"
+    );
     assert!(tables > 300 && runs > 2000 && refused > 5);
+    assert!(2 * descending >= tables);
     for words in [
         ", at the start, holds ",
         ", after s0, holds ",
@@ -225,10 +235,11 @@ fn tables_as_graphs() {
             taken[usize::from(arrow.gray)] += arrow.sets.len();
         }
     }
-    let (tables, [changing, gray]) = (printed.len(), taken);
+    let (tables, descending, [changing, gray]) = (printed.len(), descending(&printed), taken);
     println!(
         "{tables} tables as graphs, with {changing} sets on arrows and {gray} on gray ones, \
-         {refused} queries refused"
+         {descending} of them with descending columns, {refused} queries refused"
     );
     assert!(tables > 200 && changing > 1000 && gray > 1000 && refused > 5);
+    assert!(2 * descending >= tables);
 }

@@ -28,6 +28,8 @@ struct Comparison {
     tried: usize,
     /// Of the longest run to a wrong answer, how many sets it has.
     longest: usize,
+    /// How many tables were for queries without descending columns, and with them.
+    descending: [usize; 2],
     /// What was said of tables that are refused.
     said: Vec<String>,
 }
@@ -42,6 +44,7 @@ impl Comparison {
             outcomes: Default::default(),
             tried: 0,
             longest: 0,
+            descending: [0; 2],
             said: Vec::new(),
         }
     }
@@ -73,6 +76,9 @@ impl Comparison {
         let expected = own.and_then(|own| verification::compare(own, table));
         let outcome = usize::from(expected.err().unwrap_or(0));
         self.outcomes[outcome] += 1;
+        if let Ok(query) = Query::read(query) {
+            self.descending[usize::from(query.descends())] += 1;
+        }
         match (own, expected) {
             (_, Ok(())) => assert_eq!(given, Ok("accepted\n".to_owned()), "{case}"),
             (Err(_), Err(refusal)) => check_query_refused(&query_name, query, refusal, &given),
@@ -147,11 +153,20 @@ impl Comparison {
         let outcomes = outcomes.filter(|(&count, _)| count > 0);
         let outcomes = outcomes.map(|(count, word)| format!("{count} {word}"));
         println!(
-            "{what}: {}; {} of the wrong answers by trying all runs, the longest run {}",
+            "{what}: {}; {} of the wrong answers by trying all runs, the longest run {}; {} for \
+             queries with descending columns",
             outcomes.collect::<Vec<String>>().join(", "),
             self.tried,
-            self.longest
+            self.longest,
+            self.descending[1]
         );
+    }
+
+    /// Whether at least half of the tables were for queries with descending columns, of
+    /// those for queries that pass the checks 1 to 6.
+    fn half_descend(&self) -> bool {
+        let [without, with] = self.descending;
+        with >= without
     }
 }
 
@@ -229,7 +244,7 @@ fn tables_of_every_kind_on_trial() {
     }
     comparison.report("tables of every kind");
     assert!(comparison.has(&[0, 13], 500) && comparison.has(&[11, 12], 100));
-    assert!(comparison.has(&[1, 2], 5));
+    assert!(comparison.has(&[1, 2], 5) && comparison.half_descend());
     assert!(comparison.tried > 500 && comparison.outcomes[13] - comparison.tried > 5);
     let strays = [
         ") starts in no state",
@@ -281,6 +296,7 @@ fn tables_for_queries_of_every_kind() {
     }
     comparison.report("tables for queries of every kind");
     assert!(comparison.has(&[0, 1, 2, 3, 4, 5, 6, 8, 11, 12, 13], 3));
+    assert!(comparison.half_descend());
 }
 
 #[test]

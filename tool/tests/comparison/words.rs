@@ -1,24 +1,23 @@
 //! Names and sentences, as the tool has them for a query in bytes.
 
-use reference::Query;
+use reference::{Entry, Query};
 
 /// The name of a column.
 pub fn column_name(column: u8) -> String {
     char::from(b'a' + column).to_string()
 }
 
-/// The names of some columns.
-pub fn column_names(columns: &[u8]) -> Vec<String> {
-    columns.iter().copied().map(column_name).collect()
-}
-
 /// An order, as it is written.
-pub fn order_text(order: &[u8]) -> String {
-    format!("({})", column_names(order).join(", "))
+pub fn order_text(order: &[Entry]) -> String {
+    let entries = order.iter().map(|entry| {
+        let direction = if entry.descends { " desc" } else { "" };
+        column_name(entry.column) + direction
+    });
+    format!("({})", entries.collect::<Vec<String>>().join(", "))
 }
 
 /// Some orders, as they are written.
-pub fn order_texts<'o>(orders: impl IntoIterator<Item = &'o Vec<u8>>) -> Vec<String> {
+pub fn order_texts<'o>(orders: impl IntoIterator<Item = &'o Vec<Entry>>) -> Vec<String> {
     orders.into_iter().map(|order| order_text(order)).collect()
 }
 
