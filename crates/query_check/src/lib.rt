@@ -1,5 +1,4 @@
 // The checks 1 to 6 of a query's bytes, whatever they are.
-mod item;
 mod sizes;
 mod twin;
 
@@ -15,7 +14,7 @@ pub fn check(query: &[u8]) -> u8
     if sizes != refusals::PASSED {
         return sizes;
     }
-    let items = item::items_refusal(query);
+    let items = item_check::items_refusal(query);
     if items != refusals::PASSED {
         return items;
     }

@@ -21,7 +21,8 @@ use Rattle.theory.proofs.BitLaws.{raised-has, raised-keeps, raised-only}
 use Rattle.theory.proofs.RangeLaws.{map-below}
 use Rattle.theory.proofs.EntryLaws.{below-ascends}
 use Rattle.theory.proofs.SettledLaws.{settled-through, says-settled, says-alike}
-use Rattle.theory.proofs.CounterexampleLaws.{Past, past-none, past-more, past-both, past-front, past-met, firstDescends, value, bitRow, Stop, turned, classBy, stop-at, stop-rows}
+use Rattle.theory.proofs.StopLaws.{Past, past-none, past-more, past-both, past-front, past-met, firstDescends, Stop, stop-at}
+use Rattle.theory.proofs.CounterexampleLaws.{value, bitRow, turned, classBy, stop-rows}
 use Rattle.column_masks.proofs.MaskLaws.{says-both, mask-none}
 use Rattle.closure.specs.RuleMasks.{StandFor, SettledMask, ClassesOf, Prepared}
 use Rattle.closure.specs.Closing.{Closes}

@@ -15,6 +15,7 @@ pub mod ChoiceLaws
 pub mod ChoiceNumbers
 pub mod RowTheorem
 pub mod SettledLaws
+pub mod StopLaws
 pub mod CounterexampleLaws
 pub mod FreeLaws
 pub mod DerivedLaws

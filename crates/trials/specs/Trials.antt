@@ -219,6 +219,14 @@ descending-past-the-end = 2 ∷ 1 ∷ 0 ∷ 0 ∷ 0 ∷ 1 ∷ 130 ∷ 255 ∷ 25
 abbrev pub descending-dependency : Bytes
 descending-dependency = 2 ∷ 1 ∷ 0 ∷ 1 ∷ 1 ∷ 1 ∷ 16 ∷ 0 ∷ 255 ∷ 255 ∷ 255 ∷ 128 ∷ 1 ∷ 255 ∷ 255 ∷ []
 
+-- A used byte of 255, in the order's second place.
+abbrev pub used-255 : Bytes
+used-255 = 2 ∷ 1 ∷ 0 ∷ 0 ∷ 0 ∷ 2 ∷ 0 ∷ 255 ∷ 255 ∷ 255 ∷ []
+
+-- An unused byte of 128, behind a column that is not below N.
+abbrev pub unused-128 : Bytes
+unused-128 = 2 ∷ 1 ∷ 0 ∷ 0 ∷ 0 ∷ 1 ∷ 3 ∷ 128 ∷ 255 ∷ 255 ∷ []
+
 -- Produced (a desc), tested (a desc).
 abbrev pub descending-twins : Bytes
 descending-twins = 1 ∷ 1 ∷ 1 ∷ 0 ∷ 0 ∷ 1 ∷ 1 ∷ 128 ∷ 255 ∷ 255 ∷ 255 ∷ 128 ∷ 255 ∷ 255 ∷ 255 ∷ []
@@ -282,6 +290,8 @@ trials =
     record { query = column-both-ways; expected = refusal 5 } ∷
     record { query = descending-past-the-end; expected = refusal 4 } ∷
     record { query = descending-dependency; expected = refusal 4 } ∷
+    record { query = used-255; expected = refusal 4 } ∷
+    record { query = unused-128; expected = refusal 3 } ∷
     record { query = descending-twins; expected = refusal 6 } ∷
     []
 

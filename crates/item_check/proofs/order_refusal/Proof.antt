@@ -1,4 +1,4 @@
--- `query_check::item::order_refusal` meets its contract.
+-- `item_check::order_refusal` meets its contract.
 use mathlib.Core.Path.{_∙_, ap}
 use borrow.Author.Tests.{le-ltb}
 use borrow.Author.Needs.{needs}
@@ -6,8 +6,8 @@ use Rattle.theory.specs.Orders.{columns}
 use Rattle.theory.specs.Query.{bodyRefusal, orderRefusal}
 use Rattle.theory.proofs.Picks.{pick-no, picks}
 use Rattle.orders.specs.Orders.{orderOf}
-use Rattle.query_check.proofs.item.order_refusal.Statement.{statement}
-use Rattle.query_check.proofs.item.order_refusal.Tie as tie
+use Rattle.item_check.proofs.order_refusal.Statement.{statement}
+use Rattle.item_check.proofs.order_refusal.Tie as tie
 
 front-requires : tie.Need-front-requires
 front-requires c κs = search needs

@@ -1,9 +1,9 @@
--- `query_check::item::body_refusal` meets its contract: the three checks in the order of the list, by what the searches found.
+-- `item_check::body_refusal` meets its contract: the three checks in the order of the list, by what the searches found.
 use borrow.Author.Tests.{not-true, not-false}
 use borrow.Author.Needs.{needs}
 use Rattle.theory.specs.Query.{bodyRefusal}
-use Rattle.query_check.proofs.item.body_refusal.Statement.{statement}
-use Rattle.query_check.proofs.item.body_refusal.Tie as tie
+use Rattle.item_check.proofs.body_refusal.Statement.{statement}
+use Rattle.item_check.proofs.body_refusal.Tie as tie
 
 clear-from-requires : tie.Need-clear-from-requires
 clear-from-requires c κs = search needs

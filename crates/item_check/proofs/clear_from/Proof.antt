@@ -1,4 +1,4 @@
--- `query_check::item::clear_from` meets its contract. The loop's invariant: the answer is that of the bytes from i on.
+-- `item_check::clear_from` meets its contract. The loop's invariant: the answer is that of the bytes from i on.
 use Prim.Native.Nat.{_-_}
 use native.Mathlib.Omega.{arith}
 use mathlib.Core.Path.{_≡_, refl, sym, _∙_}
@@ -10,8 +10,8 @@ use Rattle.theory.specs.Limits.{unusedByte}
 use Rattle.theory.specs.Tests.{every}
 use Rattle.orders.specs.Orders.{orderOf}
 use Rattle.query.proofs.Searches.{every-more, every-fails, every-end}
-use Rattle.query_check.proofs.item.clear_from.Statement.{statement}
-use Rattle.query_check.proofs.item.clear_from.Tie as tie
+use Rattle.item_check.proofs.clear_from.Statement.{statement}
+use Rattle.item_check.proofs.clear_from.Tie as tie
 
 abbrev Inv-loop : tie.InvT-loop
 Inv-loop body used n i₀ i = every (λ x. eqb x unusedByte) (drop used (orderOf body)) ≡ every (λ x. eqb x unusedByte) (drop i (orderOf body))

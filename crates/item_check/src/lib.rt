@@ -1,4 +1,4 @@
-// Refusals 3, 4, 5: the items one by one, each for its form, its columns and a repeat.
+// The checks 3, 4, 5 of a query: its items one by one, each for its form, its columns and a repeat. Every function takes any bytes.
 use numbers::limits;
 use numbers::refusals;
 use orders::Order;

@@ -1,4 +1,4 @@
--- `query_check::item::below` meets its contract. The loop's invariant: the answer is that of the columns from i on.
+-- `item_check::below` meets its contract. The loop's invariant: the answer is that of the columns from i on.
 use Prim.Native.Nat.{_-_}
 use native.Mathlib.Omega.{arith}
 use mathlib.Core.Path.{_≡_, refl, sym, _∙_}
@@ -9,8 +9,8 @@ use borrow.Author.Needs.{needs}
 use Rattle.theory.specs.Tests.{every}
 use Rattle.orders.specs.Orders.{orderOf}
 use Rattle.query.proofs.Searches.{every-more, every-fails, every-end}
-use Rattle.query_check.proofs.item.below.Statement.{statement}
-use Rattle.query_check.proofs.item.below.Tie as tie
+use Rattle.item_check.proofs.below.Statement.{statement}
+use Rattle.item_check.proofs.below.Tie as tie
 
 abbrev Inv-loop : tie.InvT-loop
 Inv-loop named columns n i₀ i = every (λ x. ltb x columns) (orderOf named) ≡ every (λ x. ltb x columns) (drop i (orderOf named))

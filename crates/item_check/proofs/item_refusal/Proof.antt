@@ -1,12 +1,12 @@
--- `query_check::item::item_refusal` meets its contract: an order before P + T, a dependency from there on.
+-- `item_check::item_refusal` meets its contract: an order before P + T, a dependency from there on.
 use native.Mathlib.Omega.{arith}
 use denote.Ref.{now}
 use borrow.Author.Tests.{lt-ltb, le-ltb}
 use borrow.Author.Needs.{needs}
 use Rattle.theory.specs.Query.{itemRefusal, orderCount}
 use Rattle.theory.proofs.Picks.{pick-yes, pick-no}
-use Rattle.query_check.proofs.item.item_refusal.Statement.{statement}
-use Rattle.query_check.proofs.item.item_refusal.Tie as tie
+use Rattle.item_check.proofs.item_refusal.Statement.{statement}
+use Rattle.item_check.proofs.item_refusal.Tie as tie
 
 columns-requires : tie.Need-columns-requires
 columns-requires c κs = search needs

@@ -1,4 +1,4 @@
--- `query_check::item::dependency_refusal` meets its contract.
+-- `item_check::dependency_refusal` meets its contract.
 use mathlib.Core.Path.{_∙_, ap, ap₂}
 use lib.ListN.{take}
 use borrow.Author.Tests.{le-ltb, lt-leb}
@@ -6,8 +6,8 @@ use borrow.Author.Needs.{needs}
 use Rattle.theory.specs.Query.{bodyRefusal, dependencyRefusal}
 use Rattle.theory.proofs.Picks.{pick-no, picks}
 use Rattle.orders.specs.Orders.{orderOf}
-use Rattle.query_check.proofs.item.dependency_refusal.Statement.{statement}
-use Rattle.query_check.proofs.item.dependency_refusal.Tie as tie
+use Rattle.item_check.proofs.dependency_refusal.Statement.{statement}
+use Rattle.item_check.proofs.dependency_refusal.Tie as tie
 
 returns : tie.Need-returns
 unfolding dependencyRefusal

@@ -1,4 +1,4 @@
--- `query_check::item::repeated` meets its contract. The loop's invariant: none of the first i columns is among those before it.
+-- `item_check::repeated` meets its contract. The loop's invariant: none of the first i columns is among those before it.
 use Prim.Native.Nat.{ℕ, _-_, _<_}
 use native.Mathlib.Omega.{arith}
 use mathlib.Core.Path.{_≡_, sym}
@@ -11,8 +11,8 @@ use Rattle.theory.specs.Tests.{member}
 use Rattle.theory.proofs.Reflect.{decides-number}
 use Rattle.orders.specs.Orders.{orderOf}
 use Rattle.query.proofs.Searches.{repeats-found, repeats-none}
-use Rattle.query_check.proofs.item.repeated.Statement.{statement}
-use Rattle.query_check.proofs.item.repeated.Tie as tie
+use Rattle.item_check.proofs.repeated.Statement.{statement}
+use Rattle.item_check.proofs.repeated.Tie as tie
 
 abbrev Inv-loop : tie.InvT-loop
 Inv-loop named n i₀ i = (k : ℕ) → k < i → member eqb (getD (orderOf named) k 0) (take k (orderOf named)) ≡ false

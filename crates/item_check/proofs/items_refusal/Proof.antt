@@ -1,4 +1,4 @@
--- `query_check::item::items_refusal` meets its contract. The loop's invariant: the first i items pass.
+-- `item_check::items_refusal` meets its contract. The loop's invariant: the first i items pass.
 use Prim.Native.Nat.{_-_, _≤_}
 use native.Mathlib.Omega.{arith}
 use mathlib.Core.Path.{_≡_, refl, sym}
@@ -7,8 +7,8 @@ use borrow.Author.Needs.{needs}
 use Rattle.theory.specs.Refusals.{passed, firstOf}
 use Rattle.theory.specs.Query.{itemCount, itemRefusal}
 use Rattle.theory.proofs.RefusalLaws.{first-more, first-found}
-use Rattle.query_check.proofs.item.items_refusal.Statement.{statement}
-use Rattle.query_check.proofs.item.items_refusal.Tie as tie
+use Rattle.item_check.proofs.items_refusal.Statement.{statement}
+use Rattle.item_check.proofs.items_refusal.Tie as tie
 
 abbrev Inv-loop : tie.InvT-loop
 Inv-loop query n i₀ i = (i ≤ n) × (firstOf (itemRefusal query) i ≡ passed)

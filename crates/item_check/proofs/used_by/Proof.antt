@@ -1,11 +1,11 @@
--- `query_check::item::used_by` meets its contract.
+-- `item_check::used_by` meets its contract.
 use native.Mathlib.Numerals.{add-one}
 use borrow.Author.Tests.{ne-eqb}
 use borrow.Author.Needs.{needs}
 use Rattle.theory.specs.Limits.{equalKind}
 use Rattle.theory.proofs.Picks.{picks, pick-no}
-use Rattle.query_check.proofs.item.used_by.Statement.{statement}
-use Rattle.query_check.proofs.item.used_by.Tie as tie
+use Rattle.item_check.proofs.used_by.Statement.{statement}
+use Rattle.item_check.proofs.used_by.Tie as tie
 
 add-result : tie.Need-add-result
 add-result c = search needs
