@@ -15,7 +15,7 @@ pub record Skipped (m : ℕ) (o : Order) (from to : ℕ) : Type 0 where
   pub passed : (k : ℕ) → k < to → from ≤ k → inMask m (column (getD o k 0)) ≡ true
   pub stopped : to < length o → inMask m (column (getD o to 0)) ≡ false
 
--- The class of an entry's column, where the entry has a direction; else no column.
+-- The class of an entry's column where the entry descends or ascends as given, else no column.
 abbrev pub classIn : List ℕ → ℕ → Bool → ℕ
 classIn classes e down = pick (Bool·beq (descends e) down) (getD classes (column e) 0) 0
 
