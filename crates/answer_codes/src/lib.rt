@@ -1,4 +1,6 @@
 // An answer as one number: the refusal's number times 65,536 plus the value, which is 0 on refusal.
+#![tactic(auto)]
+
 ghost use Rattle.std.specs.Prelude.{◌≡◌, ◌+◌, ◌*◌, ◌<◌};
 ghost use Rattle.theory.specs.Table.{refuse};
 ghost use Rattle.answer_codes.specs.Codes.{refusal_unit, answer_code};

@@ -1,4 +1,6 @@
 // The arrows of a rule, written as masks: the columns from which an arrow goes, and the column to which it goes. The function requires what its callers have shown: it is no entry point.
+#![tactic(auto)]
+
 ghost use Rattle.std.specs.Prelude.{◌≡◌, false, [], ◌∷◌, ◌+◌, ◌≤◌, ◌<◌, length};
 ghost use Rattle.theory.specs.Orders.{columns_of};
 ghost use Rattle.orders.specs.Orders.{order_of, rule_is};

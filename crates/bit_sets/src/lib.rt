@@ -1,4 +1,6 @@
 // A set of numbers as bytes, bit i for the number i.
+#![tactic(auto)]
+
 ghost use Rattle.std.specs.Prelude.{◌≡◌, ◌/◌, ◌<◌, length};
 ghost use Rattle.bit_sets.specs.BitSets.{in_bits, with_bit};
 

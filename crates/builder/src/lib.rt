@@ -1,4 +1,6 @@
 // The builder: from a query's bytes to its table's.
+#![tactic(auto)]
+
 mod write;
 
 ghost use Rattle.std.specs.Prelude.{◌≡◌, ◌≤◌, length};

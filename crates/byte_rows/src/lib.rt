@@ -1,5 +1,7 @@
 // Bytes, words and rows of bytes of any width, read, written and cleared. Reading a byte or a word and clearing take any bytes; reading a row and copying require that it lies
 // within the bytes, which their callers have shown: neither is an entry point.
+#![tactic(auto)]
+
 ghost use Rattle.std.specs.Prelude.{◌≡◌, ◌+◌, ◌*◌, ◌≤◌, length, take, drop};
 ghost use Rattle.std.proofs.Math.Seq.{paste};
 ghost use Rattle.theory.specs.Query.{byte_at, row_at};

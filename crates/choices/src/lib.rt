@@ -1,4 +1,6 @@
 // Every produced order under every choice of sets in force: the word of the interesting orders that are held, in its place in the scratch.
+#![tactic(auto)]
+
 mod held;
 
 ghost use Rattle.std.specs.Prelude.{◌≡◌, ◌+◌, ◌*◌, ◌^◌, ◌≤◌, ◌<◌, length};

@@ -1,5 +1,7 @@
 // Closing a mask under arrows: where it has all columns of an arrow's left one, it gets those of the right one. The function requires what its callers have shown: it is no entry
 // point.
+#![tactic(auto)]
+
 ghost use Rattle.std.specs.Prelude.{◌≡◌, ◌≤◌, length};
 ghost use Rattle.closure.specs.Closing.{used, pass, Closes};
 

@@ -1,4 +1,6 @@
 // Sets of columns as masks, bit c for column c. Every function requires what its callers have shown: none is an entry point.
+#![tactic(auto)]
+
 ghost use Rattle.std.specs.Prelude.{◌≡◌, ◌<◌, ◌^◌};
 ghost use Rattle.theory.specs.Tests.{in_mask};
 ghost use Rattle.orders.specs.Orders.{order_of};

@@ -1,5 +1,7 @@
 // Whether two tables answer alike: what the two states of each joint state that is reached hold. Nothing is known of a query. Every function requires what its callers
 // have shown: none is an entry point.
+#![tactic(auto)]
+
 ghost use Rattle.std.specs.Prelude.{◌≡◌, ◌+◌, ◌*◌, ◌<◌, length};
 ghost use Rattle.theory.specs.Tests.{Says};
 ghost use Rattle.theory.specs.Machine.{SameAnswers};

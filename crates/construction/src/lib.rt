@@ -1,5 +1,7 @@
 // Constructing: from a query that passed checks 1 to 6 to the starts, successors and held words of its table, each in its part of the scratch, or to 8; and merging, from the held
 // words of the pairs that lie in the scratch, whatever they are. The functions require what their callers have shown: neither is an entry point.
+#![tactic(auto)]
+
 ghost use Rattle.std.specs.Prelude.{◌≡◌, ◌≤◌, length};
 ghost use Rattle.theory.specs.Refusals.{passed};
 ghost use Rattle.theory.specs.Query.{read_query, query_refusal};

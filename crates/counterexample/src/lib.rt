@@ -1,5 +1,7 @@
 // Two rows that show why a sort is needed: they stand in a produced order, obey the dependencies of a choice of sets in force and do not stand in an interesting order. Bit i of
 // a choice says whether set i is in force.
+#![tactic(auto)]
+
 ghost use Rattle.std.specs.Prelude.{◌≡◌, ◌*◌, ◌<◌};
 ghost use Rattle.theory.specs.Tests.{Says};
 ghost use Rattle.theory.specs.Refusals.{passed};

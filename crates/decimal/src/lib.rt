@@ -1,4 +1,6 @@
 // A number in decimal, read from a word's bytes, however many.
+#![tactic(auto)]
+
 ghost use Rattle.std.specs.Prelude.{◌≡◌, ◌+◌, ◌*◌, ◌-◌, ◌≤◌, min};
 ghost use Rattle.theory.specs.Tests.{Says};
 ghost use Rattle.decimal.specs.Words.{large_number, digit_zero, ten, Digit, Reads};

@@ -1,4 +1,6 @@
 // The beginning of a file that an argument of the program names. What failed is said on standard error, in one line.
+#![tactic(auto)]
+
 ghost use Rattle.std.specs.Prelude.{length};
 ghost use Rattle.input.specs.Within.{ReadWithin};
 

@@ -1,6 +1,8 @@
 // Lookups after the form check, for callers that look up more than once in the same bytes. Those may call them that have shown `Formed` of the bytes: `table::form` or `table::check` has
 // answered 0 for them, or they are a table that was built or accepted. A number that is not in the table is refused here. Everyone else calls the
 // crates `lookup` and `lookup_codes`, which check the form each time.
+#![tactic(auto)]
+
 ghost use Rattle.std.specs.Prelude.{◌≡◌};
 ghost use Rattle.theory.specs.Table.{grant_state, enter, take_in, ask};
 ghost use Rattle.table.specs.Form.{Formed};

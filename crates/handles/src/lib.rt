@@ -1,4 +1,5 @@
 // The kinds of number by which callers name things, a struct for each, so that one never stands in for another: the functions for C take bytes and wrap them.
+#![tactic(auto)]
 
 // An interesting order, or a produced one: the produced orders come first.
 #[derive(Drop)]

@@ -1,4 +1,6 @@
 // The beginning of an input, read from a file descriptor.
+#![tactic(auto)]
+
 ghost use Rattle.std.specs.Prelude.{length};
 ghost use Rattle.input.specs.Within.{ReadWithin};
 

@@ -1,4 +1,6 @@
 // The checks 3, 4, 5 of a query: its items one by one, each for its form, its columns and a repeat. Every function takes any bytes.
+#![tactic(auto)]
+
 ghost use Rattle.std.specs.Prelude.{◌≡◌, eqb, ltb, drop};
 ghost use Rattle.theory.specs.Tests.{every, repeats};
 ghost use Rattle.theory.specs.Refusals.{first_of};

@@ -1,4 +1,6 @@
 // What an item of a query says, as one number: an order's length and entries, or a dependency's set, kind and columns, a byte each. Every function takes any bytes.
+#![tactic(auto)]
+
 ghost use Rattle.std.specs.Prelude.{◌≡◌, ◌+◌, ◌<◌, ◌≤◌, min};
 ghost use Rattle.theory.specs.Limits.{body_width, equal_kind};
 ghost use Rattle.theory.specs.Query.{order_count, order_at, dependency_at};

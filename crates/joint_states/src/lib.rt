@@ -1,6 +1,8 @@
 // A joint state is a state of one table with a state of another. Those of two tables that are reached: those of the starts, and what taking each set in both states leads to, until nothing is added.
 // Nothing is known of a query. Every function requires what its callers have shown, two tables that pass the table check and have the same sizes above all: none is an
 // entry point.
+#![tactic(auto)]
+
 ghost use Rattle.std.specs.Prelude.{◌≡◌, true, [], ◌∷◌, map, ◌+◌, ◌*◌, ◌<◌, length};
 ghost use Rattle.theory.specs.Tests.{up_from};
 ghost use Rattle.theory.specs.Limits.{max_states, max_joint_states};

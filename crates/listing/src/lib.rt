@@ -1,4 +1,6 @@
 // The listing of a table, written into a lent text.
+#![tactic(auto)]
+
 ghost use Rattle.std.specs.Prelude.{◌≤◌, length};
 ghost use Rattle.theory.specs.Listing.{table_listing};
 ghost use Rattle.table.specs.Form.{Formed};

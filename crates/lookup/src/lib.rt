@@ -1,4 +1,6 @@
 // Lookups in a table's bytes, whatever they are: each answers in constant time or refuses, and knows nothing of the query.
+#![tactic(auto)]
+
 ghost use Rattle.std.specs.Prelude.{◌≡◌, ◌/◌, ◌<◌, ◌≤◌};
 ghost use Rattle.theory.specs.Table.{enter, take_in, ask, word, row, read_refusal};
 ghost use Rattle.answer_codes.specs.Codes.{refusal_unit};

@@ -1,5 +1,7 @@
 // Lookups in a table's bytes, whatever they are, as one number: the refusal's number times 65,536 plus the state that was moved to, or 1 for held and 0 for not held; 0 on refusal. C and
 // Rust get this number: an enum made first would be packed into a register and taken apart again. The enum of an entry or a take is read from it.
+#![tactic(auto)]
+
 ghost use Rattle.std.specs.Prelude.{◌≡◌};
 ghost use Rattle.theory.specs.Table.{enter, take_in, ask};
 ghost use Rattle.answer_codes.specs.Codes.{answer_code};

@@ -1,5 +1,7 @@
 // The open sets of each pair: those that change what the pair answers when they are taken. A pair's are gathered from those of its successors, so that the choices are gone
 // through from the largest down. Every function requires what its callers have shown: none is an entry point.
+#![tactic(auto)]
+
 ghost use Rattle.std.specs.Prelude.{◌≡◌, ◌+◌, ◌^◌, ◌≤◌, ◌<◌, length, take};
 ghost use Rattle.theory.specs.Limits.{max_produced, max_tested, max_sets};
 ghost use Rattle.theory.specs.Scratch.{held_part, open_at, open_in, work_length};

@@ -3,6 +3,8 @@
 //
 // No query has more than 165 bytes, so the first 256 bytes of the file are enough: what is answered to them is answered to the whole file, which is proved (`told_longer`). Reading
 // stops there, or where the file ends.
+#![tactic(auto)]
+
 ghost use Rattle.std.specs.Prelude.{◌+◌, ◌*◌, ◌≤◌, length};
 ghost use Rattle.theory.specs.Tests.{Says};
 ghost use Rattle.theory.specs.Limits.{max_columns};

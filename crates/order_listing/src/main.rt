@@ -2,6 +2,8 @@
 //
 // No query has more than 165 bytes, so the first 256 bytes of the input are enough: their listing is that of the whole input, which is proved
 // (`listing_front`). Reading stops there, or where the input ends.
+#![tactic(auto)]
+
 ghost use Rattle.std.specs.Prelude.{◌≤◌, length};
 ghost use Rattle.listing.specs.Lines.{longest_listing};
 ghost use Rattle.order_listing.specs.Lists.{Lists};

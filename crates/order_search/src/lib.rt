@@ -1,4 +1,6 @@
 // An order gone through: the place of an entry in it, whether an entry occurs, and whether two orders are equal. Every function takes any value.
+#![tactic(auto)]
+
 ghost use Rattle.std.specs.Prelude.{◌≡◌, eqb};
 ghost use Rattle.theory.specs.Tests.{member, position};
 ghost use Rattle.theory.specs.Orders.{same_order};

@@ -1,5 +1,7 @@
 // The functions for C and Rust. Each returns the refusal's number times a unit plus a value, which is 0 on refusal. The unit is 65,536, and 2 to the 48 where an item of a query
 // is read.
+#![tactic(auto)]
+
 ghost use Rattle.std.specs.Prelude.{◌≡◌, length};
 ghost use Rattle.theory.specs.Query.{query_refusal};
 ghost use Rattle.theory.specs.Table.{table_refusal, enter, take_in, ask, word};

@@ -3,6 +3,8 @@
 //
 // No query has more than 165 bytes and no table more than 1,292, so the first 256 bytes of the one file and the first 1,293 of the other are enough: their
 // outcome is that of the whole files, which is proved (`verify_front`). Reading stops there, or where the file ends.
+#![tactic(auto)]
+
 ghost use Rattle.std.specs.Prelude.{◌≤◌, length};
 ghost use Rattle.text.specs.Text.{Printed};
 ghost use Rattle.refusal_line.specs.Refusal.{longest_refusal};

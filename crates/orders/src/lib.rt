@@ -1,4 +1,6 @@
 // Orders and dependencies by value. Every function takes any value: a `len` above 4 reads as 4.
+#![tactic(auto)]
+
 ghost use Rattle.std.specs.Prelude.{◌≡◌, ◌≤◌, min, length, take, get_or};
 ghost use Rattle.theory.specs.Orders as theory;
 ghost use Rattle.orders.specs.Orders.{order_of, OrderIs};

@@ -1,5 +1,7 @@
 // The held words of the pairs, read and written: the word of a pair of a produced order and a choice of sets in force lies in the scratch, low byte first, produced order
 // by produced order and the choices counted upwards. Every function requires what its callers have shown: none is an entry point.
+#![tactic(auto)]
+
 ghost use Rattle.std.specs.Prelude.{◌≡◌, [], ◌∷◌, ◌+◌, ◌*◌, ◌/◌, ◌%◌, ◌^◌, ◌≤◌, ◌<◌, length};
 ghost use Rattle.theory.specs.Limits.{max_produced, max_sets};
 ghost use Rattle.theory.specs.Scratch.{pair_at, word_at, held_part};

@@ -1,5 +1,7 @@
 // What the closure test is given for the rules in force under a choice of sets: arrows between masks that stand for them, the columns that are settled from the start, and the classes
 // of columns that are alike. Every function requires what its callers have shown: none is an entry point.
+#![tactic(auto)]
+
 mod masks;
 
 ghost use Rattle.std.specs.Prelude.{◌≡◌, ◌≤◌, length};

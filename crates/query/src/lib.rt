@@ -1,4 +1,6 @@
 // The query reader: what a query's bytes say behind its sizes. Every function takes any bytes, in any number.
+#![tactic(auto)]
+
 pub mod bytes;
 
 ghost use Rattle.std.specs.Prelude.{◌≡◌, ◌+◌};

@@ -1,4 +1,6 @@
 // The checks 1 to 6 of a query's bytes, whatever they are.
+#![tactic(auto)]
+
 mod sizes;
 mod twin;
 

@@ -1,4 +1,6 @@
 // An order or a dependency of whatever bytes, after the checks of the query, as one number: the refusal's number times 2 to the 48 plus what the item says, which is 0 on refusal.
+#![tactic(auto)]
+
 ghost use Rattle.std.specs.Prelude.{◌≡◌};
 ghost use Rattle.theory.specs.Table.{refuse};
 ghost use Rattle.query_items.specs.Items.{item_code, order_item_code, dependency_item_code};

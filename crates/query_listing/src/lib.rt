@@ -1,4 +1,6 @@
 // The listing of a query, written into a lent text.
+#![tactic(auto)]
+
 ghost use Rattle.std.specs.Prelude.{◌≡◌, [], ◌≤◌, length, take};
 ghost use Rattle.theory.specs.Limits.{scratch_length};
 ghost use Rattle.theory.specs.Refusals.{space_refused};

@@ -1,4 +1,6 @@
 // The five sizes of a query, one byte each. Every function takes any bytes, in any number.
+#![tactic(auto)]
+
 ghost use Rattle.std.specs.Prelude.{◌≡◌};
 ghost use Rattle.theory.specs.Query.{column_count, produced_count, tested_count, set_count, dependency_count};
 

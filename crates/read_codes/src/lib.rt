@@ -1,4 +1,6 @@
 // What a table's bytes, whatever they are, have of a state, as one number: the refusal's number times 65,536 plus the state's word or the offset of its row, which is 0 on refusal.
+#![tactic(auto)]
+
 ghost use Rattle.std.specs.Prelude.{◌≡◌, ◌+◌, ◌*◌, ◌<◌};
 ghost use Rattle.theory.specs.Limits.{table_sizes};
 ghost use Rattle.theory.specs.Table.{word, read_refusal};

@@ -1,4 +1,6 @@
 // The line of a refusal, written into a lent text. The function requires what its callers have shown: it is no entry point.
+#![tactic(auto)]
+
 ghost use Rattle.std.specs.Prelude.{◌≤◌, length};
 ghost use Rattle.theory.specs.Listing.{refused_line};
 ghost use Rattle.text.specs.Text.{Printed};

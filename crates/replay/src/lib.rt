@@ -1,4 +1,6 @@
 // A query's table is built, and a list of lookups, lent as bytes, is answered in place on the table that was written.
+#![tactic(auto)]
+
 ghost use Rattle.std.specs.Prelude.{◌≡◌, ◌+◌, ◌<◌, length};
 ghost use Rattle.theory.specs.Build.{outcome, output_after, scratch_after};
 ghost use Rattle.theory.specs.Lookups.{pass_on};

@@ -1,5 +1,7 @@
 // Pairs as numbers: the word of a pair without the bits that do not count, the pair of a row, and a choice with one set more. While rows are numbered, row i is two bytes: a produced
 // order, and the number of a choice of sets in force, that give it. Every function requires what its callers have shown: none is an entry point.
+#![tactic(auto)]
+
 ghost use Rattle.std.specs.Prelude.{◌≡◌, ◌+◌, ◌^◌, ◌≤◌, ◌<◌, length, take};
 ghost use Rattle.std.specs.Int.Bits.{bit_or};
 ghost use Rattle.theory.specs.Limits.{max_produced, max_tested, max_sets, max_states};

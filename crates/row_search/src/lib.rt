@@ -1,4 +1,6 @@
 // Rows compared and found. The function requires what its callers have shown: it is no entry point.
+#![tactic(auto)]
+
 ghost use Rattle.std.specs.Prelude.{◌≡◌, ◌+◌, ◌^◌, ◌≤◌, ◌<◌, length, take};
 ghost use Rattle.theory.specs.Tests.{position};
 ghost use Rattle.theory.specs.Limits.{max_produced, max_tested, max_sets};

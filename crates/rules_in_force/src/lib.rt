@@ -1,5 +1,7 @@
 // The dependencies in force under a choice of sets, as arrows between masks. Bit s of a choice's number says whether set s is in force. The function requires what its callers have
 // shown: it is no entry point.
+#![tactic(auto)]
+
 ghost use Rattle.std.specs.Prelude.{◌≡◌, ◌+◌, ◌≤◌, ◌<◌, length};
 ghost use Rattle.theory.specs.Tests.{in_mask};
 ghost use Rattle.theory.specs.Refusals.{passed};

@@ -1,4 +1,6 @@
 // The closure test: whether an order is held, on sets of columns as masks and rules as arrows between masks.
+#![tactic(auto)]
+
 pub mod test;
 
 // How the test ends: the order is held, or the test stops at an entry. Then it hands out the mask of the columns that the entries before settle; whether the first unsettled

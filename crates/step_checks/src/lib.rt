@@ -1,4 +1,6 @@
 // The checks of a stepped build: those of beginning take any bytes; those of a count require that they passed. None is an entry point.
+#![tactic(auto)]
+
 ghost use Rattle.std.specs.Prelude.{◌≡◌, ◌≤◌, ◌<◌, length};
 ghost use Rattle.theory.specs.Limits.{scratch_length};
 ghost use Rattle.theory.specs.Refusals.{passed};

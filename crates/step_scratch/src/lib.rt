@@ -1,5 +1,7 @@
 // What a call of a stepped build leaves in the scratch: a build begun, and one pair more settled. Both functions require what their callers have shown: neither is an entry
 // point.
+#![tactic(auto)]
+
 ghost use Rattle.std.specs.Prelude.{◌≡◌, ◌-◌, ◌≤◌, length};
 ghost use Rattle.theory.specs.Limits.{scratch_length};
 ghost use Rattle.theory.specs.Refusals.{passed};

@@ -1,5 +1,7 @@
 // A build between control cycles: begun, then continued by calls that settle one pair of a produced order and a choice of sets in force each, and ended by one call more, which
 // merges and writes. Between calls the scratch keeps the count of the pairs settled and their held bytes.
+#![tactic(auto)]
+
 ghost use Rattle.std.specs.Prelude.{◌≡◌, length};
 ghost use Rattle.theory.specs.Steps.{begin_refusal, begun_scratch, continued, continued_output, continued_scratch};
 ghost use Rattle.steps.specs.Continued.{continued_answer};

@@ -1,6 +1,8 @@
 // The rows of the smallest table, from the held words of the pairs that lie in the scratch, whatever they are: the starts, then what each row becomes under each set,
 // each numbered once. A row is what is held under each choice of further sets, so pairs that answer alike for every further choice are one row. Every function requires
 // what its callers have shown: none is an entry point.
+#![tactic(auto)]
+
 mod held;
 mod numbered;
 mod walk;

@@ -1,4 +1,6 @@
 // Words and numbers, each written at a place of a lent text. Each function hands back the place behind, and requires what its callers have shown: none is an entry point.
+#![tactic(auto)]
+
 ghost use mathlib.Core.List.{[], ◌∷◌, map, flatten};
 ghost use Rattle.std.specs.Prelude.{◌+◌, ◌*◌, ◌%◌, ◌<◌, ◌≤◌, length};
 ghost use Rattle.theory.specs.Listing.{decimal, decimal_within, spaced};

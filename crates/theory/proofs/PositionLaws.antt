@@ -48,7 +48,7 @@ module _ {A : Type 0} {x : A} where
   spot_below zero s m = absurd (Memᴰ.not-nil m)
   spot_below (suc k) none m = absurd (Memᴰ.not-nil m)
   spot_below (suc k) (found e) m = suc-le-suc zero-le
-  spot_below (suc k) (later n s) m = suc-le-suc (spot_below k s (behind n m))
+  spot_below (suc k) (later {l = l} n s) m = suc-le-suc (spot_below {l = l} k s (behind n m))
 
   spot_grows : {l : List A} {n : ℕ} (m : List A) → Spot x l n → Memᴰ x l → Spot x (l ++ m) n
   spot_grows m none k = absurd (Memᴰ.not-nil k)

@@ -1,10 +1,10 @@
 -- Document 02, Req 08: every call keeps the scratch behind its zeroed part, so beginning over whatever lay there starts afresh.
-use Prim.Native.Nat.{ℕ, zero, suc, ◌+◌, ◌*◌, ◌-◌, ◌≤◌}
+use Prim.Native.Nat.{ℕ, zero, suc, ◌+◌, ◌*◌, ◌≤◌}
 use native.Mathlib.Nat.{mul-le-mul}
 use native.Mathlib.Omega.{arith}
 use mathlib.Core.Path.{◌≡◌, refl, sym, ◌∙◌, ap, subst}
 use mathlib.Core.List.{[]}
-use lib.ListN.{length, take, drop}
+use lib.ListN.{length, drop}
 use lib.Pow.{pow_mono}
 use Rattle.theory.specs.Limits.{max_produced, max_sets, held_width, scratch_length}
 use Rattle.theory.specs.Refusals.{passed}

@@ -1,4 +1,6 @@
 // The two rows by the masks where the closure test stops, written into a buffer. Every function requires what its callers have shown: none is an entry point.
+#![tactic(auto)]
+
 ghost use Rattle.std.specs.Prelude.{◌≡◌, ◌++◌, ◌+◌, ◌*◌, ◌<◌, ◌≤◌, length, not};
 ghost use Rattle.theory.specs.Tests.{in_mask};
 ghost use Rattle.theory.specs.Limits.{max_columns};

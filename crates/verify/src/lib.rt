@@ -1,4 +1,6 @@
 // A supplier's table on trial: the query's own checks and table, then the supplier's table beside it.
+#![tactic(auto)]
+
 ghost use Rattle.std.specs.Prelude.{◌≡◌, length};
 ghost use Rattle.theory.specs.Scratch.{joint_states_length};
 ghost use Rattle.theory.specs.Query.{read_query};

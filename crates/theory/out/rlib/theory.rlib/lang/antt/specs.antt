@@ -1,0 +1,23 @@
+-- Document 01 as definitions, in its order, then what document 02 adds.
+pub mod Tests
+pub mod Limits
+pub mod Orders
+pub mod Choices
+pub mod Rows
+pub mod NumberingWalk
+pub mod Machine
+pub mod AnswerTree
+pub mod Settled
+pub mod Construction
+pub mod Refusals
+pub mod Query
+pub mod Placed
+pub mod Table
+pub mod Scratch
+pub mod Build
+pub mod Lookups
+pub mod Ascending
+pub mod Listing
+pub mod Verification
+pub mod Counterexamples
+pub mod Steps
