@@ -16,7 +16,7 @@ use numbers::limits::SCRATCH_LENGTH;
 use numbers::refusals::{PASSED, SPACE};
 
 // What a build answers: the refusal, or 0; and the table's length, which is 0 on refusal.
-#[derive(Drop)]
+#[derive(Clone, Copy)]
 pub struct Built {
     pub refusal: u8,
     pub length: usize,

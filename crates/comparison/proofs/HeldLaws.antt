@@ -3,7 +3,6 @@ use Prim.Native.Nat.{ℕ, ◌+◌, ◌<◌, ◌≤◌}
 use native.Mathlib.Omega.{arith}
 use mathlib.Core.Path.{◌≡◌, sym, ◌∙◌, ap, subst}
 use mathlib.Core.Bool.{Bool, true, false, not, true≢false, false≢true}
-use mathlib.Core.Logic.{◌≢◌}
 use lib.Dec.{eqb}
 use Rattle.theory.specs.Tests.{Says, holds, fails}
 use Rattle.theory.specs.Query.{Bytes}

@@ -13,11 +13,13 @@ use Rattle.theory.specs.Construction.{sizes_of_query}
 use Rattle.theory.specs.Query.{Bytes, produced_count, tested_count, set_count, read_query}
 use Rattle.theory.specs.Table.{Table}
 use Rattle.theory.specs.Scratch.{Stored}
-use Rattle.theory.specs.Build.{too_many, table, limited}
+use Rattle.theory.specs.Build.{too_many, table, limited, construct}
 use Rattle.theory.specs.Build as theory
 use Rattle.theory.specs.Steps.{merged_table}
+use Rattle.theory.proofs.MergedTables.{merged_query}
 use Rattle.theory.proofs.Reflect.{says_ltb}
 use Rattle.theory.proofs.QueryLaws.{produced_count_lem, tested_count_lem, set_count_lem}
+use Rattle.choices.specs.Words.{WordsAre}
 use Rattle.table_rows.specs.Rows.{RowsFound}
 use Rattle.table_rows.specs.Walk.{sizes_given}
 use Rattle.construction.specs.declared.Constructed.{Constructed}
@@ -81,3 +83,8 @@ granted_table t e = go (says_ltb max_states t.state_count)
     go : {past : Bool} → Says (max_states < t.state_count) past → t.state_count ≤ max_states
     go (holds h) = let f : ⊥ = omega (arith, e, ap (λ o. (constructed_answer o).refusal) (limited_many t h)) in absurd f
     go (fails h) = omega arith
+
+-- words of the query's pairs give its table
+pub constructed_words : (b work : Bytes) → WordsAre b work → limited (merged_table (read_query b) work) ≡ construct (read_query b)
+unfolding construct
+constructed_words b work words = ap limited (merged_query (read_query b) work words)

@@ -14,7 +14,7 @@ use numbers::limits::MAX_STATES;
 use numbers::refusals::{PASSED, STATES};
 
 // The refusal, or 0; and the count of rows, which is 0 on refusal.
-#[derive(Drop)]
+#[derive(Clone, Copy)]
 pub struct Constructed {
     pub refusal: u8,
     pub rows: usize,

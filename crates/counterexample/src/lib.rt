@@ -16,7 +16,7 @@ use numbers::refusals;
 use settled::{Tested, test};
 
 // Two rows were written, there are none, or the refusal.
-#[derive(Drop)]
+#[derive(Clone, Copy)]
 pub enum Found {
     TwoRows,
     None,

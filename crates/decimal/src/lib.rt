@@ -6,7 +6,7 @@ ghost use Rattle.theory.specs.Tests.{Says};
 ghost use Rattle.decimal.specs.Words.{large_number, digit_zero, ten, Digit, Reads};
 
 // What a word says as a number.
-#[derive(Drop)]
+#[derive(Clone, Copy)]
 pub enum Word {
     // Its value; `LARGE_NUMBER` where that is as large or larger.
     Number(u16),

@@ -14,7 +14,7 @@ use handles::{OrderHandle, SetHandle, StateNumber};
 use numbers::{limits, refusals};
 
 // Whether an interesting order is held.
-#[derive(Drop)]
+#[derive(Clone, Copy)]
 pub enum Asked {
     Held,
     NotHeld,

@@ -2,17 +2,17 @@
 #![tactic(auto)]
 
 // An interesting order, or a produced one: the produced orders come first.
-#[derive(Drop)]
+#[derive(Clone, Copy)]
 pub struct OrderHandle(pub u8);
 
 // A set of dependencies.
-#[derive(Drop)]
+#[derive(Clone, Copy)]
 pub struct SetHandle(pub u8);
 
 // A state of a table.
-#[derive(Drop)]
+#[derive(Clone, Copy)]
 pub struct StateNumber(pub u8);
 
 // A choice of the sets in force: bit i for set i.
-#[derive(Drop)]
+#[derive(Clone, Copy)]
 pub struct SetChoice(pub u8);

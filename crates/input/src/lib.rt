@@ -5,7 +5,7 @@ ghost use Rattle.std.specs.Prelude.{length};
 ghost use Rattle.input.specs.Within.{ReadWithin};
 
 // How many bytes of input there are, up to a buffer's length, or that a read failed.
-#[derive(Drop)]
+#[derive(Clone, Copy)]
 pub enum Input {
     Front(usize),
     Failed,

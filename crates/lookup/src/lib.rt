@@ -13,20 +13,20 @@ use numbers::{limits, refusals};
 use read_codes::read_refusal;
 
 // What a plan node carries: one state number.
-#[derive(Drop)]
+#[derive(Clone, Copy)]
 pub struct Mark {
     pub state: StateNumber,
 }
 
 // Where an entry or a take leads.
-#[derive(Drop)]
+#[derive(Clone, Copy)]
 pub enum Moved {
     To(Mark),
     Refused(u8),
 }
 
 // A state's held word.
-#[derive(Drop)]
+#[derive(Clone, Copy)]
 pub enum HeldWord {
     Word(u16),
     Refused(u8),

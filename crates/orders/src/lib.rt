@@ -8,14 +8,14 @@ ghost use Rattle.orders.specs.Orders.{order_of, OrderIs};
 use numbers::limits;
 
 // An order, most significant entry first: `len` entries, each a column with a direction, and behind them some that say nothing.
-#[derive(Drop)]
+#[derive(Clone, Copy)]
 pub struct Order {
     pub entries: [u8; 4],
     pub len: usize,
 }
 
 // A functional dependency: `count` left columns, which come first, settle the one behind them; or two columns agree in every row.
-#[derive(Drop)]
+#[derive(Clone, Copy)]
 pub enum Rule {
     Fix {
         count: u8,
@@ -31,7 +31,7 @@ pub enum Rule {
 }
 
 // A rule that belongs to a numbered set.
-#[derive(Drop)]
+#[derive(Clone, Copy)]
 pub struct Dependency {
     pub set: u8,
     pub rule: Rule,

@@ -5,9 +5,9 @@ use native.Mathlib.Numerals.{add-one}
 use native.Mathlib.Omega.{arith}
 use mathlib.Core.Path.{◌≡◌, sym, ◌∙◌, ap, ap₂}
 use mathlib.Core.Bool.{Bool}
-use mathlib.Core.List.{[], ◌∷◌, ◌++◌}
-use lib.ListN.{length, take, drop, set, get_or-append}
-use lib.Seq.{length-take-le, get_or-take, get_or-append-add}
+use mathlib.Core.List.{[], ◌∷◌}
+use lib.ListN.{length, take, set}
+use lib.Seq.{get_or-take}
 use lib.Pow.{pow_mono, high, low}
 use Rattle.theory.specs.Tests.{Says, holds, fails}
 use Rattle.theory.specs.Limits.{max_produced, max_sets}

@@ -13,7 +13,7 @@ ghost use Rattle.rules_in_force.specs.Rules.{rules_at};
 use handles::SetChoice;
 
 // What the test is given beside the masks themselves: how many arrows there are, and the columns that are settled from the start, before any entry.
-#[derive(Drop)]
+#[derive(Clone, Copy)]
 pub struct Ready {
     pub arrows: usize,
     pub start: u16,

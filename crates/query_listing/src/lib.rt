@@ -12,7 +12,7 @@ use numbers::limits::{LONGEST_REFUSAL, LONGEST_TABLE, SCRATCH_LENGTH};
 use numbers::refusals::{PASSED, SPACE};
 
 // What a listing answers: the refusal, or 0; and the listing's length, which is 0 on refusal.
-#[derive(Drop)]
+#[derive(Clone, Copy)]
 pub struct Listed {
     pub refusal: u8,
     pub length: usize,

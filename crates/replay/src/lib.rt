@@ -17,7 +17,7 @@ use lookup::{Mark, Moved};
 use numbers::refusals::PASSED;
 
 // The two bytes of an answer, and the mark for the lookups after it.
-#[derive(Drop)]
+#[derive(Clone, Copy)]
 struct Answered {
     refusal: u8,
     value: u8,

@@ -11,7 +11,7 @@ use numbers::limits::{HELD_WIDTH, MAX_STATES};
 use numbers::scratch::HELD_PART;
 
 // A row's number, and how many rows are numbered.
-#[derive(Drop)]
+#[derive(Clone, Copy)]
 pub struct RowNumber {
     pub number: usize,
     pub count: usize,

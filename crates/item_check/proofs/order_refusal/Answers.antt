@@ -1,0 +1,18 @@
+-- `item_check::order_refusal` meets its contract.
+use mathlib.Core.Path.{◌∙◌, ap}
+use borrow.Author.Tests.{le-ltb}
+use Rattle.theory.specs.Orders.{columns}
+use Rattle.theory.specs.Query.{body_refusal, order_refusal}
+use Rattle.theory.proofs.Picks.{pick_no, picks}
+use Rattle.orders.specs.Orders.{order_of}
+use Rattle.item_check.proofs.order_refusal.Goals as goal
+
+pub returns-then-head-gt-MAX_LENGTH : goal.returns-then-head-gt-MAX_LENGTH
+unfolding order_refusal
+returns-then-head-gt-MAX_LENGTH c = search picks
+
+pub returns-else-head-gt-MAX_LENGTH : goal.returns-else-head-gt-MAX_LENGTH
+unfolding order_refusal
+returns-else-head-gt-MAX_LENGTH c = let a = c.args in
+    pick_no _ (le-ltb _ _ c.if-head-gt-MAX_LENGTH.false)
+    (c.body_refusal.ensures ∙ ap (body_refusal a.columns a.head (order_of a.body)) (c.columns-named.ensures.order ∙ ap columns c.front.ensures.order))

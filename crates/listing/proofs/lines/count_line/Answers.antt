@@ -1,0 +1,9 @@
+-- `listing::lines::count_line` meets its contract: its three pieces, one behind the other.
+use Rattle.theory.specs.Listing.{count_line}
+use Rattle.text.proofs.TextLaws.{wrote_on}
+use Rattle.listing.proofs.lines.count_line.Goals as goal
+
+pub returns : goal.returns
+unfolding count_line
+returns c =
+    rw (← c.states-count.ensures.0) (wrote_on c.word-first.ensures (wrote_on c.number-end.ensures c.word.ensures))
