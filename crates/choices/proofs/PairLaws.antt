@@ -1,5 +1,5 @@
 -- The pairs counted produced order by produced order and the choices upwards: the produced order and the choice of a number, and its held bytes in their place.
-use Prim.Native.Nat.{ℕ, ◌+◌, ◌*◌, ◌-◌, ◌/◌, ◌%◌, ◌^◌, ◌<◌}
+use Prim.Native.Nat.{ℕ, ◌+◌, ◌*◌, ◌/◌, ◌%◌, ◌^◌, ◌<◌}
 use native.Mathlib.Nat.{add-zero, mod-lt, div-lt_iff_lt-mul, div-add-mod'}
 use mathlib.Core.Path.{◌≡◌, ◌∙◌, ap}
 use lib.Pow.{pow_pos}
