@@ -22,7 +22,6 @@ use Rattle.theory.proofs.QueryLaws.{produced_count_lem, tested_count_lem, set_co
 use Rattle.choices.specs.Words.{WordsAre}
 use Rattle.table_rows.specs.Rows.{RowsFound}
 use Rattle.table_rows.specs.Walk.{sizes_given}
-use Rattle.construction.specs.declared.Constructed.{Constructed}
 use Rattle.construction.specs.Constructed.{constructed_answer, counted, Leaves}
 
 -- the table that was constructed, or another

@@ -1,2 +1,3 @@
 -- The theorem of the starred trials.
 pub mod TrialsTheorem
+pub mod StepTrialsTheorem

@@ -17,7 +17,7 @@ use Rattle.theory.specs.Query.{Bytes, read_query, sizes_refusal, body_refusal, o
 use Rattle.theory.specs.Table.{table_of, walked_table, write_table, states_in, form_refusal, starts_refusal, successors_refusal, held_refusal, table_refusal}
 use Rattle.theory.specs.Build.{Outcome, refused, built, construct, outcome}
 use Rattle.theory.specs.Verification.{mismatch_refusal, answer_refusal, supplied_refusal, verify_refusal}
-use Rattle.trials.specs.Trials.{Trial, Expectation, table, builds, refusal, so_many_states, after, same_row, verified, pairs, merged, same_outcome, outcome_of, held_bytes_of, merged_of, Builds, has_sizes, Run, is_run, row_after, OneRow, is_one_row, comes_out, passes, Meets, trials, supplied}
+use Rattle.trials.specs.Trials.{Trial, Expectation, table, builds, refusal, so_many_states, after, same_row, verified, same_outcome, outcome_of, Builds, has_sizes, Run, is_run, row_after, OneRow, is_one_row, comes_out, passes, Meets, trials, supplied}
 use Rattle.theory.proofs.Reflect.{says_true, says_every, says_by, says_as, says_and, says_eqb, says_ltb, decides_list, decides_number, decides_bool}
 use Rattle.theory.proofs.ListLaws.{member_get_d}
 use Rattle.theory.proofs.MachineLaws.{numbered_exactly, numbered_distinct}
@@ -35,7 +35,7 @@ all_supplied : every passes supplied ≡ true
 unfolding descends column flatten settled_columns is_held numbered_within read_query sizes_refusal body_refusal order_refusal dependency_refusal item_refusal twin_refusal query_refusal table_of walked_table construct form_refusal starts_refusal successors_refusal held_refusal table_refusal agree mismatch_refusal answer_refusal supplied_refusal verify_refusal comes_out
 all_supplied = refl
 
-same_outcome_lem : (r o : Outcome) → same_outcome r o ≡ true → r ≡ o
+pub same_outcome_lem : (r o : Outcome) → same_outcome r o ≡ true → r ≡ o
 same_outcome_lem (refused m) (refused n) e = ap refused (says_true (says_eqb m n) e)
 same_outcome_lem (refused m) (built t) e = absurd (false≢true e)
 same_outcome_lem (built s) (refused n) e = absurd (false≢true e)
@@ -88,10 +88,6 @@ meets query (after p ss i held) e =
           (query_exactly q (query_formed query h.0) produced order ss (member_get_d q.produced p [] h.1.0.produced) (member_get_d (interesting q) i [] h.1.1.0)).derived,
     )
 meets query (verified t n) e = says_true (says_eqb (verify_refusal query t scratch_length) n) e
-meets query (pairs b) e = says_true (says_and (says_eqb (query_refusal query) passed) (decides_list decides_number (held_bytes_of (read_query query)) b)) e
-meets query (merged b t) e =
-    let h = says_true (says_and (says_eqb (query_refusal query) passed) (says_by (same_outcome (merged_of (read_query query) b) (built t)) (λ f. f) (λ f g. false≢true (sym f ∙ g)))) e in
-    (h.0, same_outcome_lem (merged_of (read_query query) b) (built t) h.1)
 meets query (same_row p ss rs) e =
     let q = read_query query in
     let r = outcome_of query in

@@ -1,10 +1,9 @@
 -- Document 01, "Trials at the edges", with those of document 02: the starred trials, as one table of queries and what is expected of each; and suppliers' tables on trial, as
 -- another.
-use Rattle.std.specs.Prelude.{ℕ, suc, ◌<◌, ◌≡◌, Bool, true, false, ◌&&◌, eqb, ltb, length, get_or}
+use Rattle.std.specs.Prelude.{ℕ, ◌<◌, ◌≡◌, Bool, true, false, ◌&&◌, List, [], ◌∷◌, eqb, ltb, length, get_or}
 use Rattle.std.specs.Bool.{beq}
-use mathlib.Core.List.{List, [], ◌∷◌, ◌++◌, map, flatten}
 use Rattle.theory.specs.Limits.{scratch_length, longest_table}
-use Rattle.theory.specs.Tests.{Says, every, same_list, up_from}
+use Rattle.theory.specs.Tests.{Says, every, same_list}
 use Rattle.theory.specs.Orders.{Query, interesting, rules_of, After}
 use Rattle.theory.specs.NumberingWalk.{Exactly}
 use Rattle.theory.specs.Machine.{AllBelow, runs, numbered_within}
@@ -13,9 +12,8 @@ use Rattle.theory.specs.Construction.{sizes_of_query, answers_of, State}
 use Rattle.theory.specs.Refusals.{passed}
 use Rattle.theory.specs.Query.{Bytes, read_query, query_refusal}
 use Rattle.theory.specs.Table.{states_in, machine_in}
-use Rattle.theory.specs.Build.{Outcome, refused, built, limited, delivered, outcome}
+use Rattle.theory.specs.Build.{Outcome, refused, built, outcome}
 use Rattle.theory.specs.Verification.{verify_refusal}
-use Rattle.theory.specs.Steps.{pair_count, pair_bytes, count_bytes, merged_table}
 
 -- What is expected of a query.
 pub data Expectation : Type 0 where
@@ -33,10 +31,6 @@ pub data Expectation : Type 0 where
   same_row : ℕ → List ℕ → List ℕ → Expectation
   -- the trial of a supplier's table comes to this number, 0 where it is accepted
   verified : Bytes → ℕ → Expectation
-  -- these are the held bytes of its pairs, in their sequence
-  pairs : Bytes → Expectation
-  -- these held bytes, merged by the last call of a stepped build, give this table
-  merged : Bytes → Bytes → Expectation
 
 pub record Trial : Type 0 where
   pub query : Bytes
@@ -84,13 +78,6 @@ abbrev pub is_one_row : Outcome → ℕ → List ℕ → List ℕ → Bool
 is_one_row (refused r) p ss rs = false
 is_one_row (built t) p ss rs = eqb (row_after t p ss) (row_after t p rs)
 
--- The held bytes of all pairs, and what comes of held bytes behind the count of the last call, with room enough.
-abbrev pub held_bytes_of : Query → Bytes
-held_bytes_of q = flatten (map (pair_bytes q) (up_from 0 (pair_count q)))
-
-abbrev pub merged_of : Query → Bytes → Outcome
-merged_of q b = delivered (limited (merged_table q (count_bytes (suc (pair_count q)) ++ b))) longest_table
-
 -- Derivation and states are spoken of only where the query passes checks 1 to 6.
 -- The trial comes out as expected: a test that computes, ..
 unfoldable pub comes_out : Bytes → Query → Expectation → Bool
@@ -102,8 +89,6 @@ comes_out query q (after p ss i held) =
     eqb (query_refusal query) passed && (is_run q p ss && (ltb i (length (interesting q)) && beq (is_held (rules_of q ss) (get_or q.produced p []) (get_or (interesting q) i [])) held))
 comes_out query q (verified t n) = eqb (verify_refusal query t scratch_length) n
 comes_out query q (same_row p ss rs) = is_run q p ss && (is_run q p rs && is_one_row (outcome_of query) p ss rs)
-comes_out query q (pairs b) = eqb (query_refusal query) passed && same_list eqb (held_bytes_of q) b
-comes_out query q (merged b t) = eqb (query_refusal query) passed && same_outcome (merged_of q b) (built t)
 
 abbrev pub passes : Trial → Bool
 passes t = comes_out t.query (read_query t.query) t.expected
@@ -118,8 +103,6 @@ Meaning query q (after p ss i held) =
     (query_refusal query ≡ passed) × Run q p ss × (i < length (interesting q)) × Says (After q (get_or q.produced p []) ss (get_or (interesting q) i [])) held
 Meaning query q (verified t n) = verify_refusal query t scratch_length ≡ n
 Meaning query q (same_row p ss rs) = Run q p ss × Run q p rs × OneRow query p ss rs
-Meaning query q (pairs b) = (query_refusal query ≡ passed) × (held_bytes_of q ≡ b)
-Meaning query q (merged b t) = (query_refusal query ≡ passed) × (merged_of q b ≡ built t)
 
 abbrev pub Meets : Bytes → Expectation → Type 0
 Meets query = Meaning query (read_query query)
@@ -306,10 +289,6 @@ trials =
     record { query = used_255; expected = refusal 4 } ∷
     record { query = unused_128; expected = refusal 3 } ∷
     record { query = descending_twins; expected = refusal 6 } ∷
-    record { query = example; expected = pairs (1 ∷ 0 ∷ 5 ∷ 0 ∷ 1 ∷ 0 ∷ 5 ∷ 0 ∷ 2 ∷ 0 ∷ 2 ∷ 0 ∷ 10 ∷ 0 ∷ 10 ∷ 0 ∷ []) } ∷
-    record { query = example; expected = merged (17 ∷ 0 ∷ 5 ∷ 0 ∷ 1 ∷ 128 ∷ 5 ∷ 0 ∷ 2 ∷ 255 ∷ 2 ∷ 0 ∷ 10 ∷ 0 ∷ 250 ∷ 0 ∷ []) (4 ∷ 2 ∷ 2 ∷ 2 ∷ 0 ∷ 1 ∷ 2 ∷ 0 ∷ 1 ∷ 3 ∷ 2 ∷ 2 ∷ 3 ∷ 3 ∷ 1 ∷ 0 ∷ 2 ∷ 0 ∷ 5 ∷ 0 ∷ 10 ∷ 0 ∷ []) } ∷
-    record { query = example; expected = merged (0 ∷ 0 ∷ 0 ∷ 0 ∷ 0 ∷ 0 ∷ 0 ∷ 0 ∷ 0 ∷ 0 ∷ 0 ∷ 0 ∷ 0 ∷ 0 ∷ 0 ∷ 0 ∷ []) (1 ∷ 2 ∷ 2 ∷ 2 ∷ 0 ∷ 0 ∷ 0 ∷ 0 ∷ 0 ∷ 0 ∷ []) } ∷
-    record { query = both_directions; expected = pairs (1 ∷ 0 ∷ 5 ∷ 0 ∷ 2 ∷ 0 ∷ 10 ∷ 0 ∷ []) } ∷
     []
 
 -- Document 02, Req 01: suppliers' tables on trial. Accepted: our own, with directions too, one with a row for each pair of a produced order and sets in force, one with other state numbers, one with two rows
