@@ -1,0 +1,45 @@
+-- `replay::replay` meets its contract: the table is the output's first bytes, and demand 3 holds on the definitions.
+use mathlib.Core.Path.{sym, ◌∙◌}
+use lib.ListN.{length}
+use lib.Seq.{length-take-le}
+use Rattle.replay.proofs.OutcomeLaws.{lookups_kept, table_room, lookups_replayed, modelled}
+use Rattle.replay.proofs.replay.Goals as goal
+
+pub returns-then-built-ne-PASSED : goal.returns-then-built-ne-PASSED
+returns-then-built-ne-PASSED c =
+    let b = c.build-built.ensures in
+    let a = c.args in
+    let k = lookups_kept a.query.now (length a.scratch.now) a.output.now b.value a.lookups.now c.if-built-ne-PASSED.true in
+    record {
+      value = b.value;
+      output_after = b.output_after;
+      scratch_after = b.scratch_after;
+      lookups_after = k;
+      modelled = modelled a.query.now (length a.scratch.now) (length a.output.now) a.lookups.now k;
+    }
+
+pub slice_bounds-run-end : goal.slice_bounds-run-end
+slice_bounds-run-end c =
+    let b = c.build-built.ensures in
+    let a = c.args in
+    table_room a.query.now (length a.scratch.now) a.output.now b.value b.output_after c.if-built-ne-PASSED.false
+
+pub slice_bounds-run-end-2 : goal.slice_bounds-run-end-2
+slice_bounds-run-end-2 c =
+    let b = c.build-built.ensures in
+    let a = c.args in
+    sym (length-take-le _ _ (table_room a.query.now (length a.scratch.now) a.output.now b.value b.output_after c.if-built-ne-PASSED.false))
+
+pub returns : goal.returns
+returns c =
+    let b = c.build-built.ensures in
+    let a = c.args in
+    let k = c.run.ensures ∙
+    lookups_replayed a.query.now (length a.scratch.now) a.output.now b.value b.output_after c.if-built-ne-PASSED.false a.lookups.now in
+    record {
+      value = b.value;
+      output_after = b.output_after;
+      scratch_after = b.scratch_after;
+      lookups_after = k;
+      modelled = modelled a.query.now (length a.scratch.now) (length a.output.now) a.lookups.now k;
+    }

@@ -1,0 +1,44 @@
+-- `verify::verify` meets its contract: the build is refused, or its table is put beside the supplier's.
+use mathlib.Core.List.{◌++◌}
+use lib.ListN.{length, take, drop}
+use Rattle.theory.specs.Scratch.{joint_states_length}
+use Prim.Native.Nat.{◌≤◌}
+use lib.Seq.{length-take-le}
+use native.Mathlib.Omega.{arith}
+use mathlib.Core.Path.{sym, ◌∙◌, ap}
+use Rattle.verify.proofs.OwnLaws.{Granted, build_refused, build_granted, joint_cleared}
+use borrow.Author.Rules.{rules}
+use Rattle.verify.proofs.verify.Goals.{Else-refusal-ne-PASSED}
+use Rattle.verify.proofs.verify.Goals as goal
+
+pub returns-then-refusal-ne-PASSED : goal.returns-then-refusal-ne-PASSED
+returns-then-refusal-ne-PASSED c = let k = c.build-built.ensures in record {
+  value = build_refused c.args.query.now c.args.scratch.now k.value c.args.table.now c.if-refusal-ne-PASSED.true;
+  scratch_after = k.scratch_after;
+}
+
+-- what is known where the build gave a table
+granted : (c : Else-refusal-ne-PASSED) → let k = c.build-built in let a = c.args in (k.result.length ≤ length k.new.output) × Granted a.query.now a.scratch.now (take k.result.length k.new.output)
+granted c = let k = c.build-built.ensures in let a = c.args in build_granted a.query.now a.scratch.now k.value k.output_after c.if-refusal-ne-PASSED.false
+
+pub slice_bounds-ours-end : goal.slice_bounds-ours-end
+slice_bounds-ours-end c = (granted (goal.at.slice_bounds-ours-end c).Else-refusal-ne-PASSED).0
+
+pub slice_bounds-supplied_cleared-end : goal.slice_bounds-supplied_cleared-end
+slice_bounds-supplied_cleared-end c = sym (length-take-le _ _ (granted (goal.at.slice_bounds-supplied_cleared-end c).Else-refusal-ne-PASSED).0)
+
+pub slice_bounds-supplied_cleared-end-2 : goal.slice_bounds-supplied_cleared-end-2
+slice_bounds-supplied_cleared-end-2 c = let g = (granted (goal.at.slice_bounds-supplied_cleared-end-2 c).Else-refusal-ne-PASSED).1.room in omega arith
+
+pub slice_bounds-supplied_cleared-end-3 : goal.slice_bounds-supplied_cleared-end-3
+slice_bounds-supplied_cleared-end-3 c = let g = (granted (goal.at.slice_bounds-supplied_cleared-end-3 c).Else-refusal-ne-PASSED).1.room in sym (length-take-le joint_states_length c.build-built.new.scratch (omega arith))
+
+pub supplied_cleared-requires : goal.supplied_cleared-requires
+supplied_cleared-requires c = let g = (granted (goal.at.supplied_cleared-requires c).Else-refusal-ne-PASSED).1 in let l = g.room in (g.own, length-take-le joint_states_length c.build-built.new.scratch (omega arith))
+
+pub returns : goal.returns
+returns c = let g = (granted (goal.at.returns c).Else-refusal-ne-PASSED).1 in let a = c.args in let k = c.build-built in let e = c.supplied_cleared.ensures in
+    record {
+      value = e.0 ∙ g.goes_on a.table.now;
+      scratch_after = ap (λ p. p ++ drop joint_states_length k.new.scratch) e.1 ∙ joint_cleared a.scratch.now k.new.scratch g.room (k.ensures.scratch_after ∙ g.cleared) (search rules) ∙ sym g.cleared;
+    }
