@@ -1,10 +1,10 @@
 #!/usr/bin/env bash
 # ./check.sh
-#     The whole check: layout, every proof, must-fail edit and program; then the launcher, lints, the second implementation's tests, its comparison with the
-#     proved library and the programs, the tool, the examples and the commands that the documents show. After the proofs it prints what each crate took.
-#     It ends in the line `N passed, 0 failed` of the proofs.
+#     The whole check: `rt ci`, which takes every crate's layout, proofs, must-fail edits and programs; then the launcher, layout and lints of the Rust
+#     packages, the second implementation's tests, its comparison with the proved library and the programs, the tool, the examples and the commands that
+#     the documents show. After the proofs it prints what each crate has. It ends in the line `N passed, 0 failed` of the proofs.
 # ./check.sh quick [CRATE ..]
-#     Layout, lints, and the proofs and must-fail edits of the crates named, or of those that differ from the last commit.
+#     Layout, lints, and the proofs and must-fail edits of the crates named, or of those that differ from the last commit. It lays their files out.
 set -euo pipefail
 cd "$(dirname "$0")"
 
@@ -15,42 +15,44 @@ compare_kit() {
     [ "$installed" = "$(cat KIT)" ] || echo "the installed kit is $installed; the proofs were made with $(cat KIT)"
 }
 
-check_layout() {
-    rt fmt --check
-    cargo fmt --check
+# `rt ci` passes where a must-fail edit cannot be applied, compiled or read. Here none may be such, and none may be missing from those that were refused.
+check_edits() { # LOG
+    local said edits
+    said=$(grep '^rt: ok; ' "$1") || { echo "rt ci has no line that begins 'rt: ok'" >&2; exit 1; }
+    edits=$(find crates -path 'crates/*/must-fail/*.edit' | wc -l)
+    [[ $said =~ \;\ must-fail\ edits:\ ([0-9]+)\ refused(,\ [0-9]+\ of\ them\ only\ by\ a\ limit)?(,\ 0\ bad)?(\;|$) && ${BASH_REMATCH[1]} = "$edits" ]] || {
+        printf 'not each of the %d must-fail edits was refused:\n%s\n' "$edits" "$said" >&2
+        grep 'BAD EDIT' "$1" >&2 || true
+        exit 1
+    }
+    echo "each of the $edits must-fail edits was refused"
 }
 
 # The wrapper's build asks for the library, of whatever version.
 check_lints() {
-    [ -e target/staticlib/liborder_tables.a ] || rt staticlib order_tables
+    [ -e crates/order_tables/out/liborder_tables.a ] || (cd crates/order_tables && rt lib)
+    cargo fmt --check
     cargo clippy --workspace --all-targets --offline --locked -- -D warnings
 }
 
-# The crates whose files differ from the last commit, of those that crates.txt lists.
+# The crates whose files differ from the last commit, of those that crates.txt lists, and in its sequence.
 changed_crates() {
-    { git diff --name-only --no-renames HEAD -- crates; git ls-files --others --exclude-standard -- crates; } | cut -d / -f 2 | sort -u |
-        grep -Fxf - <(sed -n 's/^\([a-z0-9_]*\):.*/\1/p' crates.txt) || true
+    sed -nE 's/^([a-z0-9_]+)( [^:]*)?:.*/\1/p' crates.txt |
+        grep -Fxf <({ git diff --name-only --no-renames HEAD -- crates; git ls-files --others --exclude-standard -- crates; } | cut -d / -f 2 | sort -u) || true
 }
 
-# Proves crates and tries their must-fail edits. `rt must-fail` tries those of every crate below them too, so it runs in a copy that has no others.
+# Lays the crates out, proves them and tries their must-fail edits.
 check_crates() { # CRATE..
-    rt check "$@"
-    copy=$(mktemp -d)
-    trap 'rm -rf "$copy"' EXIT
-    cp -R crates crates.txt "$copy"
-    mkdir -p target
-    ln -s "$PWD/target" "$copy/target"
-    local edits crate
-    for edits in "$copy"/crates/*/must-fail; do
-        crate=$(basename "$(dirname "$edits")")
-        [[ " $* " == *" $crate "* ]] || rm -r "$edits"
+    local crate
+    for crate; do
+        echo "== $crate"
+        (cd "crates/$crate" && rt fmt && rt check)
     done
-    (cd "$copy" && rt must-fail "$@")
+    rt must-fail "$@"
 }
 
 quick() { # [CRATE..]
     compare_kit
-    check_layout
     check_lints
     if [ $# -eq 0 ]; then
         local changed
@@ -64,14 +66,15 @@ quick() { # [CRATE..]
 
 whole() {
     compare_kit
-    check_layout
     proofs=$(mktemp)
     trap 'rm -f "$proofs"' EXIT
-    # `rt ci` begins by removing target/, so all else comes behind it. What it has proved is not proved again for the library and the programs.
+    # `rt ci` sets aside what other commands made in the crates, the library among it, and leaves the programs there. So all else comes behind it.
+    SECONDS=0
     rt ci | tee "$proofs"
+    echo "rt ci took $SECONDS s"
+    check_edits "$proofs"
     docs/measure.sh "$proofs"
     tool/tests/launcher.sh
-    rt check order_listing order_verify order_counterexample
     check_lints
     cargo test --release --offline --locked -p reference
     cargo test --release --offline --locked -p order_tables

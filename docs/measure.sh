@@ -1,6 +1,7 @@
 #!/usr/bin/env bash
-# Shows what it takes to check each crate. A log of `rt ci` or `rt check` tells the seconds and the proved functions; the lines of code, definitions
-# and proofs and the must-fail edits are counted in the crate's folder.
+# Shows what each crate has. A log of `rt ci` tells the proved functions of each crate that it proved; of one whose proof is kept from an earlier run it
+# tells none, and `rt ci --anew` proves all. The lines of code, definitions and proofs and the must-fail edits are counted in the crate's folder.
+# No log tells the seconds that a crate takes, so their column in docs/measures.csv stays empty, and so does that of the functions where a proof was kept.
 #   docs/measure.sh LOG                   prints the figures as a Markdown table, and changes no file
 #   docs/measure.sh --append LANDING LOG  prints the same table, and adds a row for each crate to docs/measures.csv under the label LANDING
 set -euo pipefail
@@ -34,27 +35,34 @@ fi
 
 rows=()
 while read -r crate; do
-    # Two crates are checked at a time, so another one's lines may stand between a crate's functions and its seconds.
-    measured=$(awk -v function_of="fn $crate::" -v proved="rt: $crate proved (" '
-        index($0, function_of) == 1 { functions++ }
-        index($0, proved) == 1 && match($0, /[0-9]+ s\)$/) { print substr($0, RSTART, RLENGTH - 3) "," functions + 0; exit }' "$log_path")
-    [ -n "$measured" ] || fail 1 "$log does not say how long $crate took"
+    # What is printed of a crate's proof stands together, from its heading to the line that it is proved. Its tests have a heading of their own.
+    functions=$(awk -v heading="== $crate" -v function_of="fn $crate::" -v proved="rt: $crate proved" -v kept="rt: $crate is kept: " '
+        index($0, kept) == 1 { print "kept"; exit }
+        index($0, "== ") == 1 { inside = $0 == heading }
+        inside && index($0, function_of) == 1 { functions++ }
+        inside && $0 == proved { print functions + 0; exit }' "$log_path")
+    [ -n "$functions" ] || fail 1 "$log does not say that $crate is proved"
     edits=$(find "crates/$crate" -path "crates/$crate/must-fail/*.edit" | wc -l)
-    rows+=("$crate,$measured,$(lines "$crate" 'src/*.rt'),$(lines "$crate" 'specs/*.antt'),$(lines "$crate" 'proofs/*.antt'),$edits")
-done < <(sed -n 's/^\([a-z0-9_]*\):.*/\1/p' crates.txt)
+    rows+=("$crate,,${functions/kept/},$(lines "$crate" 'src/*.rt'),$(lines "$crate" 'specs/*.antt'),$(lines "$crate" 'proofs/*.antt'),$edits")
+done < <(sed -nE 's/^([a-z0-9_]+)( [^:]*)?:.*/\1/p' crates.txt)
 
 printf '%s\n' "${rows[@]}" | awk -F , '
     function row(name, cells) {
         printf "| %s |", name
-        for (i = 2; i <= 7; i++) printf " %d |", cells[i]
+        for (i = 3; i <= 7; i++) printf " %s |", cells[i]
         print ""
     }
     BEGIN {
-        print "| Crate | Check, s | Functions | Code, lines | Definitions, lines | Proofs, lines | Must-fail edits |"
-        print "|---|---|---|---|---|---|---|"
+        print "| Crate | Functions | Code, lines | Definitions, lines | Proofs, lines | Must-fail edits |"
+        print "|---|---|---|---|---|---|"
     }
-    { split($0, cells); row("`" $1 "`", cells); for (i = 2; i <= 7; i++) sums[i] += cells[i] }
-    END { row("in all", sums) }'
+    {
+        split($0, cells)
+        for (i = 3; i <= 7; i++) sums[i] += cells[i]
+        if (cells[3] == "") { cells[3] = "kept"; kept++ }
+        row("`" $1 "`", cells)
+    }
+    END { if (kept) sums[3] = sums[3] " and those of " kept " kept"; row("in all", sums) }'
 
 if [ -n "$landing" ]; then
     for row in "${rows[@]}"; do echo "$landing,$row"; done >>docs/measures.csv

@@ -2,11 +2,11 @@
 # Builds each example in C and in Rust on the proved library, runs both, and compares what they print with the example's file .expected. Then runs
 # the commands that README.md and docs/PROGRAMS.md show, and compares what they print with what stands there. Where Graphviz is installed, it makes the
 # picture of the first query too, compares it with the one that README.md shows, and makes pictures of the trials' graphs.
-# The library is in the folder that ORDER_TABLES_LIB names, or where `rt staticlib order_tables` writes it. `rt check order_listing order_verify
-# order_counterexample` makes the programs that the commands run, and ./order_tables the tool.
+# The library is in the folder that ORDER_TABLES_LIB names, or where `rt lib` writes it, run in crates/order_tables. `rt ci` leaves the programs that the
+# commands run, each in its crate's out/, and ./order_tables makes the library and the tool.
 set -euo pipefail
 cd "$(dirname "$0")/.."
-library=${ORDER_TABLES_LIB:-target/staticlib}
+library=${ORDER_TABLES_LIB:-crates/order_tables/out}
 program=$(mktemp)
 trap 'rm -f "$program"' EXIT
 for example in plan verify counterexample newest steps; do

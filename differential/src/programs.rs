@@ -10,10 +10,11 @@ use reference::trials::repository;
 ///
 /// When it is not there.
 pub fn built(name: &str) -> PathBuf {
-    let path = repository().join("target/bin").join(name);
+    let path = repository().join(format!("crates/{name}/out/{name}"));
     assert!(
         path.is_file(),
-        "target/bin/{name} is missing: `rt check {name}` makes it"
+        "{} is missing: `rt run` makes it, run in crates/{name}",
+        path.display()
     );
     path
 }

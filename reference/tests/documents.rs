@@ -166,7 +166,7 @@ fn the_programs_page_shows_how_the_example_tables_come_out() {
     let commands = commands(shown);
     for (command, printed) in &commands {
         match command[..] {
-            ["target/bin/order_verify", query, table] => {
+            ["crates/order_verify/out/order_verify", query, table] => {
                 let outcome = verification::printed(verified(query, table));
                 assert_eq!(*printed, outcome, "{command:?}");
             }
@@ -185,7 +185,8 @@ fn the_programs_page_shows_rows_that_break_the_order_and_where_there_are_none() 
     let commands = commands(section(&programs, heading));
     for (command, printed) in &commands {
         match command[..] {
-            ["target/bin/order_counterexample", query, produced, sets, order] => {
+            ["crates/order_counterexample/out/order_counterexample", query, produced, sets, order] =>
+            {
                 let asked = [produced, sets, order].map(|number| number.parse::<u8>());
                 let asked = asked.map(|number| number.expect("a byte")).into();
                 let checked = counterexample::check_printed(&file(query), asked, printed);
@@ -202,7 +203,8 @@ fn the_programs_page_shows_rows_that_break_the_order_and_where_there_are_none() 
 fn the_programs_page_has_the_listing() {
     let programs = document("docs/PROGRAMS.md");
     let shown = section(&programs, "`order_listing`: a table's numbers");
-    let command = "$ ./order_tables encode examples/first.txt | target/bin/order_listing";
+    let program = "crates/order_listing/out/order_listing";
+    let command = format!("$ ./order_tables encode examples/first.txt | {program}");
     let quoted = format!("\n{command}\n{}```\n", trials::example().listing());
     assert!(shown.contains(&quoted));
 }
@@ -326,7 +328,11 @@ fn the_architecture_lists_the_crates() {
     let listed = listed.lines().filter(|line| !line.starts_with('#'));
     let listed: BTreeMap<&str, BTreeSet<&str>> = listed
         .filter_map(|line| line.split_once(':'))
-        .map(|(name, others)| (name, others.split_whitespace().collect()))
+        .map(|(name, others)| {
+            // Behind a static library's name stands that it is one.
+            let name = name.split(' ').next().unwrap_or_default();
+            (name, others.split_whitespace().collect())
+        })
         .collect();
 
     // What the crates of a line depend on counts too, and these stand above it.
