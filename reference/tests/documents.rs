@@ -265,9 +265,11 @@ fn the_format_has_the_scratch_of_a_stepped_build() {
 #[test]
 fn the_proved_trials_have_the_queries_and_the_table() {
     let trials = trials::all();
-    let lists = lists(&document("crates/trials/specs/Trials.antt"));
-    assert!(lists.len() > 10, "only {} lists", lists.len());
-    for list in lists {
+    let of = |name: &str| lists(&document(&format!("crates/trials/specs/{name}.antt")));
+    let (first, stepped) = (of("Trials"), of("StepTrials"));
+    assert!(first.len() > 10, "only {} lists", first.len());
+    assert!(stepped.len() > 3, "only {} lists", stepped.len());
+    for list in first.into_iter().chain(stepped) {
         let known = |trial: &Trial| {
             let said = [&trial.query, &trial.table, &trial.supplied, &trial.pairs];
             said.contains(&&list) || trial.merged.as_flattened().contains(&list)
