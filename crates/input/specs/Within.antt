@@ -5,4 +5,4 @@ use Rattle.input.specs.declared.Input.TheVariants as input
 
 abbrev pub ReadWithin : Input → ℕ → Type 0
 ReadWithin (input.Front n) most = n ≤ most
-ReadWithin input.Failed most = Unit {0}
+ReadWithin (input.Failed _) most = Unit {0}
