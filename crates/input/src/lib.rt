@@ -2,7 +2,7 @@
 #![tactic(auto)]
 
 ghost use Rattle.std.specs.Prelude.{length};
-ghost use Rattle.input.specs.Within.{ReadWithin};
+ghost use Rattle.input.specs.Within.{ReadWithin, ReadFront};
 
 use std::io;
 use std::io::Read;
@@ -16,7 +16,8 @@ pub enum Input {
 
 // Reads until the buffer is full or the input ends, however few bytes a read gives.
 pub fn read_front<R: Read>(reader: &mut R, buffer: &mut [u8]) -> Input
-    ensures { ReadWithin result (length buffer.new) }
+    ensures within { ReadWithin result (length buffer.new) }
+    ensures front { ReadFront (R.remaining reader.old) result buffer.new }
 {
     let mut n = 0;
     while n < buffer.len() {
