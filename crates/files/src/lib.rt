@@ -5,33 +5,88 @@ ghost use Rattle.std.specs.Prelude.{length};
 ghost use Rattle.input.specs.Within.{ReadWithin};
 
 use input::{Input, read_front};
+use std::env::FillError;
+use std::fmt::InlineText;
+use std::io::Write;
+use std::rt::{Env, Files};
+use std::{fs, io};
+
+// Linux passes no longer name of a file.
+const LONGEST_NAME: usize = 4096;
+
+// Linux's numbers of what an argument that cannot be had is refused with.
+const EINVAL: i32 = 22;
+
+const ENAMETOOLONG: i32 = 36;
+
+// The system's words for an error, and the number that std writes behind them.
+const LONGEST_WORDS: usize = 128;
+
+// Says what failed, and why: in the system's own words, without the number that std writes behind them. Nothing can be said of a failure to say so.
+fn fail<W: Write>(errors: &mut W, what: &[u8], error: &io::Error) {
+    let text = InlineText::<LONGEST_WORDS>::of(*error);
+    let why = text.as_str();
+    let why = match why.split_once(" (os error ") {
+        Some((words, _)) => words,
+        None => why,
+    };
+    let _ = errors.write_all(what);
+    let _ = errors.write_all(b": ");
+    let _ = errors.write_all(why.as_bytes());
+    let _ = errors.write_all(b"\n");
+}
+
+// Opens the file of that name to read it. std takes no name that is not UTF-8.
+fn open<R: Files>(rt: &R, name: &[u8]) -> io::Result<R::File> {
+    match str::from_utf8(name) {
+        Ok(path) => fs::open(rt, path),
+        Err(_) => Err(io::Error::new(io::ErrorKind::InvalidFilename, "the name is not UTF-8")),
+    }
+}
 
 // Reads the beginning of the file of that name.
-fn read_file(name: &[u8], buffer: &mut [u8]) -> Input
+fn read_file<R: Files>(rt: &R, name: &[u8], buffer: &mut [u8]) -> Input
     ensures { ReadWithin result (length buffer.new) }
 {
-    let fd = os::open_read(name);
-    if fd < 0 {
-        os::fail(name);
-        return Input::Failed;
+    match open(rt, name) {
+        Ok(mut file) => read_front(&mut file, buffer),
+        Err(error) => Input::Failed(error),
     }
-    let input = read_front(fd, buffer);
-    if let Input::Failed = input {
-        os::fail(name);
-    }
-    libc::close(fd);
-    input
 }
 
 // The same of the file that an argument names.
-pub fn read_argument(i: usize, buffer: &mut [u8]) -> Input
+pub fn read_argument<R: Env + Files, W: Write>(
+    rt: &R,
+    errors: &mut W,
+    i: usize,
+    buffer: &mut [u8],
+) -> Input
     ensures { ReadWithin result (length buffer.new) }
 {
-    let mut name = io::buffer();
-    let length = os::arg(i, &mut name);
-    if os::errno() != 0 {
-        os::fail(b"the name of a file");
-        return Input::Failed;
+    let mut name = [0u8; LONGEST_NAME];
+    let length = match rt.arg(i, &mut name) {
+        Ok(length) => length,
+        Err(error) => {
+            let error = io::Error::from_raw_os_error(match error {
+                FillError::NotPresent => EINVAL,
+                FillError::TooLong => ENAMETOOLONG,
+            });
+            fail(errors, b"the name of a file", &error);
+            return Input::Failed(error);
+        }
+    };
+    let input = read_file(rt, &name[..length], buffer);
+    if let Input::Failed(error) = &input {
+        fail(errors, &name[..length], error);
     }
-    read_file(&name[..length], buffer)
+    input
+}
+
+// Whether the program was started with an argument of that number. The program's own name is argument 0.
+pub fn is_given<R: Env>(rt: &R, i: usize) -> bool {
+    let mut nothing = [0u8; 0];
+    match rt.arg(i, &mut nothing) {
+        Err(FillError::NotPresent) => false,
+        _ => true,
+    }
 }

@@ -1,31 +1,31 @@
-// The beginning of an input, read from a file descriptor.
+// The beginning of an input, read from any reader.
 #![tactic(auto)]
 
 ghost use Rattle.std.specs.Prelude.{length};
-ghost use Rattle.input.specs.Within.{ReadWithin};
+ghost use Rattle.input.specs.Within.{ReadWithin, ReadFront};
 
-// How many bytes of input there are, up to a buffer's length, or that a read failed.
+use std::io;
+use std::io::Read;
+
+// How many bytes of input there are, up to a buffer's length, or why a read failed.
 #[derive(Clone, Copy)]
 pub enum Input {
     Front(usize),
-    Failed,
+    Failed(io::Error),
 }
 
 // Reads until the buffer is full or the input ends, however few bytes a read gives.
-pub fn read_front(fd: i32, buffer: &mut [u8]) -> Input
-    ensures { ReadWithin result (length buffer.new) }
+pub fn read_front<R: Read>(reader: &mut R, buffer: &mut [u8]) -> Input
+    ensures within { ReadWithin result (length buffer.new) }
+    ensures front { ReadFront (R.remaining reader.old) result buffer.new }
 {
     let mut n = 0;
     while n < buffer.len() {
-        let got = libc::read(fd, &mut buffer[n..]);
-        if got < 0 {
-            return Input::Failed;
+        match reader.read(&mut buffer[n..]) {
+            Ok(0) => return Input::Front(n),
+            Ok(more) => n += more,
+            Err(error) => return Input::Failed(error),
         }
-        let more = io::count(got, &buffer[n..]);
-        if more == 0 {
-            return Input::Front(n);
-        }
-        n += more;
     }
     Input::Front(n)
 }

@@ -14,13 +14,14 @@ ghost use Rattle.order_counterexample.specs.Evidence.{longest_rows, none_line, r
 
 use counterexample::{Found, find};
 use decimal::{LARGE_NUMBER, Word};
-use files::read_argument;
+use files::{is_given, read_argument};
 use handles::{OrderHandle, SetChoice};
 use input::Input;
-use libc::{STDERR_FILENO, STDOUT_FILENO};
 use numbers::limits::QUERY_FRONT;
 use numbers::refusals;
 use refusal_line::refused;
+use std::io::Write;
+use std::rt::{Env, Files};
 
 // Two rows of 12 columns, and the longest text of two rows.
 const ROWS_ROOM: usize = 24;
@@ -114,58 +115,62 @@ fn answer(query: &[u8], produced: u16, sets: u16, order: u16, text: &mut [u8]) -
 }
 
 // Prints the answer, and says whether all of it was written.
-fn print(query: &[u8], produced: u16, sets: u16, order: u16) -> bool {
+fn print<W: Write>(output: &mut W, query: &[u8], produced: u16, sets: u16, order: u16) -> bool {
     let mut text = [0u8; LONGEST_ROWS];
     let length = answer(query, produced, sets, order, &mut text);
-    io::write_all(STDOUT_FILENO, &text[..length])
+    output.write_all(&text[..length]).is_ok()
 }
 
 // Reads the query and prints the answer. What failed is said on standard error.
-fn answer_file(produced: u16, sets: u16, order: u16) {
+fn answer_file<R: Env + Files, O: Write, E: Write>(
+    rt: &R,
+    output: &mut O,
+    errors: &mut E,
+    produced: u16,
+    sets: u16,
+    order: u16,
+) {
     let mut query = [0u8; QUERY_FRONT];
-    let input = read_argument(1, &mut query);
+    let input = read_argument(rt, errors, 1, &mut query);
     let Input::Front(n) = input else {
         return;
     };
-    if !print(&query[..n], produced, sets, order) {
-        io::write_all(STDERR_FILENO, b"cannot write the answer\n");
+    if !print(output, &query[..n], produced, sets, order) {
+        let _ = errors.write_all(b"cannot write the answer\n");
     }
 }
 
 // The number that an argument is. That it is none is said on standard error.
-fn read_number(i: usize) -> Word {
+fn read_number<R: Env, W: Write>(rt: &R, errors: &mut W, i: usize) -> Word {
     let mut word = [0u8; LONGEST_WORD];
-    let length = os::arg(i, &mut word);
-    let number = decimal::read(&word[..length]);
+    let number = match rt.arg(i, &mut word) {
+        Ok(length) => decimal::read(&word[..length]),
+        Err(_) => Word::Other,
+    };
     if let Word::Other = number {
-        io::write_all(
-            STDERR_FILENO,
-            b"PRODUCED, SETS and ORDER must be decimal numbers\n",
-        );
+        let _ = errors.write_all(b"PRODUCED, SETS and ORDER must be decimal numbers\n");
     }
     number
 }
 
-// A program cannot set its exit status, so what failed is said on standard error, in one line: the numbers are read first, and the file only where they are numbers.
-fn main() {
-    if os::arg_count() != 5 {
-        io::write_all(
-            STDERR_FILENO,
-            b"usage: order_counterexample QUERY PRODUCED SETS ORDER\n",
-        );
+// The exit status is 0 in each case, and what failed is said on standard error, in one line: the numbers are read first, and the file only where they are numbers.
+fn main(rt: HostRuntime) {
+    let mut errors = rt.stderr();
+    if !is_given(&rt, 4) || is_given(&rt, 5) {
+        let _ = errors.write_all(b"usage: order_counterexample QUERY PRODUCED SETS ORDER\n");
         return;
     }
-    let first = read_number(2);
+    let first = read_number(&rt, &mut errors, 2);
     let Word::Number(produced) = first else {
         return;
     };
-    let second = read_number(3);
+    let second = read_number(&rt, &mut errors, 3);
     let Word::Number(sets) = second else {
         return;
     };
-    let third = read_number(4);
+    let third = read_number(&rt, &mut errors, 4);
     let Word::Number(order) = third else {
         return;
     };
-    answer_file(produced, sets, order);
+    answer_file(&rt, &mut rt.stdout(), &mut errors, produced, sets, order);
 }

@@ -9,8 +9,8 @@ ghost use Rattle.listing.specs.Lines.{longest_listing};
 ghost use Rattle.order_listing.specs.Lists.{Lists};
 
 use input::{Input, read_front};
-use libc::{STDERR_FILENO, STDIN_FILENO, STDOUT_FILENO};
 use numbers::limits::{LONGEST_LISTING, QUERY_FRONT, SCRATCH_LENGTH};
+use std::io::Write;
 
 // The listing of an input, of which its first 256 bytes are given; how many bytes of the text it takes.
 fn answer(front: &[u8], text: &mut [u8]) -> usize
@@ -23,21 +23,22 @@ fn answer(front: &[u8], text: &mut [u8]) -> usize
 }
 
 // Prints the listing, and says whether all of it was written.
-fn print(front: &[u8]) -> bool {
+fn print<W: Write>(output: &mut W, front: &[u8]) -> bool {
     let mut text = [0u8; LONGEST_LISTING];
     let length = answer(front, &mut text);
-    io::write_all(STDOUT_FILENO, &text[..length])
+    output.write_all(&text[..length]).is_ok()
 }
 
-// A program cannot set its exit status, so what failed is said on standard error.
-fn main() {
+// The exit status is 0 in each case, and what failed is said on standard error.
+fn main(rt: HostRuntime) {
+    let mut errors = rt.stderr();
     let mut buffer = [0u8; QUERY_FRONT];
-    let input = read_front(STDIN_FILENO, &mut buffer);
+    let input = read_front(&mut rt.stdin(), &mut buffer);
     let Input::Front(n) = input else {
-        io::write_all(STDERR_FILENO, b"cannot read the query\n");
+        let _ = errors.write_all(b"cannot read the query\n");
         return;
     };
-    if !print(&buffer[..n]) {
-        io::write_all(STDERR_FILENO, b"cannot write the listing\n");
+    if !print(&mut rt.stdout(), &buffer[..n]) {
+        let _ = errors.write_all(b"cannot write the listing\n");
     }
 }

@@ -10,11 +10,11 @@ ghost use Rattle.text.specs.Text.{Printed};
 ghost use Rattle.refusal_line.specs.Refusal.{longest_refusal};
 ghost use Rattle.order_verify.specs.Verdict.{accepted_line, verdict_line, VerdictPrinted};
 
-use files::read_argument;
+use files::{is_given, read_argument};
 use input::Input;
-use libc::{STDERR_FILENO, STDOUT_FILENO};
 use numbers::limits::{LONGEST_REFUSAL, QUERY_FRONT, SCRATCH_LENGTH, TABLE_FRONT};
 use numbers::refusals::PASSED;
+use std::io::Write;
 
 // The line of an accepted table; how many bytes of the text it takes.
 fn accepted(text: &mut [u8]) -> usize
@@ -48,29 +48,30 @@ fn answer(query: &[u8], table: &[u8], text: &mut [u8]) -> usize
 }
 
 // Prints the outcome, and says whether all of it was written.
-fn print(query: &[u8], table: &[u8]) -> bool {
+fn print<W: Write>(output: &mut W, query: &[u8], table: &[u8]) -> bool {
     let mut text = [0u8; LONGEST_REFUSAL];
     let length = answer(query, table, &mut text);
-    io::write_all(STDOUT_FILENO, &text[..length])
+    output.write_all(&text[..length]).is_ok()
 }
 
-// A program cannot set its exit status, so what failed is said on standard error.
-fn main() {
-    if os::arg_count() != 3 {
-        io::write_all(STDERR_FILENO, b"usage: order_verify QUERY TABLE\n");
+// The exit status is 0 in each case, and what failed is said on standard error.
+fn main(rt: HostRuntime) {
+    let mut errors = rt.stderr();
+    if !is_given(&rt, 2) || is_given(&rt, 3) {
+        let _ = errors.write_all(b"usage: order_verify QUERY TABLE\n");
         return;
     }
     let mut query = [0u8; QUERY_FRONT];
-    let first = read_argument(1, &mut query);
+    let first = read_argument(&rt, &mut errors, 1, &mut query);
     let Input::Front(m) = first else {
         return;
     };
     let mut table = [0u8; TABLE_FRONT];
-    let second = read_argument(2, &mut table);
+    let second = read_argument(&rt, &mut errors, 2, &mut table);
     let Input::Front(n) = second else {
         return;
     };
-    if !print(&query[..m], &table[..n]) {
-        io::write_all(STDERR_FILENO, b"cannot write the outcome\n");
+    if !print(&mut rt.stdout(), &query[..m], &table[..n]) {
+        let _ = errors.write_all(b"cannot write the outcome\n");
     }
 }
