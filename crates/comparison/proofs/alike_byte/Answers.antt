@@ -1,9 +1,8 @@
 -- `comparison::alike_byte` meets its contract. The loop's invariant: the states of the first j joint states of the byte hold the same.
 use native.Mathlib.Omega.{arith}
-use mathlib.Core.Path.{◌≡◌}
+use mathlib.Core.Path.{◌≡◌, ap}
 use Rattle.theory.specs.Tests.{holds}
 use Rattle.joint_states.proofs.SetLaws.{byte_none}
-use mathlib.Core.Path.{ap}
 use mathlib.Core.Bool.{not}
 use Rattle.comparison.proofs.HeldLaws.{alike_skip, alike_none, alike_more, unlike}
 use Rattle.comparison.proofs.alike_byte.Goals as goal

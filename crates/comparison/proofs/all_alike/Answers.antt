@@ -1,11 +1,10 @@
 -- `comparison::all_alike` meets its contract. The loop's invariant: the states of the joint states of the first k bytes hold the same.
 use Prim.Native.Nat.{◌*◌}
 use native.Mathlib.Omega.{arith}
-use mathlib.Core.Path.{◌≡◌}
+use mathlib.Core.Path.{◌≡◌, ap}
 use Rattle.theory.specs.Tests.{holds}
 use Rattle.theory.specs.Limits.{max_states}
 use Rattle.theory.specs.Table.{states_in}
-use mathlib.Core.Path.{ap}
 use mathlib.Core.Bool.{not}
 use Rattle.joint_states.proofs.TogetherLaws.{our_form}
 use Rattle.comparison.proofs.HeldLaws.{alike_none, alike_more, unlike}

@@ -1,11 +1,10 @@
 -- `joint_states::add_starts` meets its contract. The loop's invariant: the joint states of the first p produced orders are put in.
 use Prim.Native.Nat.{◌<◌}
-use mathlib.Core.Path.{sym, ◌∙◌, subst}
+use mathlib.Core.Path.{sym, ◌∙◌, subst, ◌≡◌}
 use Rattle.theory.specs.Limits.{max_joint_states}
 use Rattle.joint_states.proofs.TogetherLaws.{start_places, joint_number_lem, start_reached}
 use Rattle.joint_states.proofs.SetLaws.{added_none, added_next}
 use native.Mathlib.Omega.{arith}
-use mathlib.Core.Path.{◌≡◌}
 use Rattle.theory.specs.Table.{produced_in}
 use Rattle.joint_states.specs.JointStates.{start_joint_state}
 use borrow.Author.Rules.{rules}

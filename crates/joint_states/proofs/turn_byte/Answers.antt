@@ -1,7 +1,6 @@
 -- `joint_states::turn_byte` meets its contract. The loop's invariant: the first j joint states of the byte had their turn.
-use mathlib.Core.Path.{sym, ◌∙◌}
+use mathlib.Core.Path.{sym, ◌∙◌, ◌≡◌}
 use native.Mathlib.Omega.{arith}
-use mathlib.Core.Path.{◌≡◌}
 use Rattle.joint_states.proofs.SetLaws.{byte_none, visited_none, visited_skip, visited_more}
 use borrow.Author.Rules.{rules}
 use Rattle.joint_states.proofs.turn_byte.Goals as goal

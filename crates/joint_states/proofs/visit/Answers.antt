@@ -1,16 +1,13 @@
 -- `joint_states::visit` meets its contract. The loop's invariant: what the first s sets lead to is put in.
-use mathlib.Core.Path.{ap₂}
+use mathlib.Core.Path.{ap₂, sym, ◌∙◌, subst, ◌≡◌}
 use lib.ListN.{get_or}
-use Rattle.joint_states.specs.JointStates.{joint_number}
+use Rattle.joint_states.specs.JointStates.{joint_number, next_joint_state}
 use Prim.Native.Nat.{◌<◌}
-use mathlib.Core.Path.{sym, ◌∙◌, subst}
 use Rattle.theory.specs.Limits.{max_joint_states}
 use Rattle.joint_states.proofs.TogetherLaws.{our_form, their_form, joint_below, joint_number_lem, next_reached}
 use Rattle.joint_states.proofs.SetLaws.{added_none, added_next}
 use native.Mathlib.Omega.{arith}
-use mathlib.Core.Path.{◌≡◌}
 use Rattle.theory.specs.Table.{sets_in}
-use Rattle.joint_states.specs.JointStates.{next_joint_state}
 use borrow.Author.Rules.{rules}
 use Rattle.joint_states.proofs.visit.Goals.{After-joint_state}
 use Rattle.joint_states.proofs.visit.Goals as goal

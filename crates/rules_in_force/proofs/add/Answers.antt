@@ -14,8 +14,7 @@ use Rattle.arrows.specs.Arrows.{arrows}
 use Rattle.arrows.proofs.ArrowLaws.{adding_none}
 use Rattle.rules_in_force.specs.Rules.{arrows_at, is_listed}
 use Rattle.rules_in_force.proofs.RuleLaws.{listed_at, dependency_narrow}
-use Rattle.rules_in_force.proofs.add.Goals.{After-listed}
-use Rattle.rules_in_force.proofs.add.Goals.{After-dependency-dependency}
+use Rattle.rules_in_force.proofs.add.Goals.{After-listed, After-dependency-dependency}
 use Rattle.rules_in_force.proofs.add.Goals as goal
 
 -- the arrows by whether the dependency is listed

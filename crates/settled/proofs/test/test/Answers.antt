@@ -1,26 +1,19 @@
--- `settled::test::test` meets its contract, by the loop's invariant of `Turn`.
-use Prim.Native.Nat.{◌^◌}
+-- `settled::test::test` meets its contract: a turn reads its entry and compares it; it is passed over, or the test ends there.
+use Prim.Native.Nat.{◌^◌, ◌<◌, ◌≤◌}
 use native.Mathlib.Omega.{arith}
-use mathlib.Core.Path.{sym, ◌∙◌, ap, ap₂, subst, subst₂}
+use mathlib.Core.Path.{sym, ◌∙◌, ap, ap₂, subst, subst₂, ◌≡◌}
 use mathlib.Core.Bool.{not}
 use lib.Bits.{bit_or}
-use lib.ListN.{get_or}
+use lib.ListN.{get_or, length-take, length}
 use borrow.Author.Rules.{rules}
 use Rattle.theory.specs.Orders.{descends, column}
 use Rattle.orders.specs.Orders.{order_of}
 use Rattle.settled.specs.declared.Tested.TheVariants as tested
-use Rattle.settled.specs.Places.{class_in}
+use Rattle.settled.specs.Places.{class_in, meets}
 use Rattle.closure.specs.Closing.{Closes}
 use Rattle.settled.proofs.TestLaws.{Ended, midway_begins, midway_next, midway_fails, midway_last, midway_end, meets_there}
-use Prim.Native.Nat.{◌<◌, ◌≤◌}
-use mathlib.Core.Path.{◌≡◌, ◌∙◌, ap}
-use lib.ListN.{length-take, length, get_or}
-use Rattle.theory.specs.Orders.{column}
-use Rattle.settled.specs.Places.{meets}
 use Rattle.column_masks.proofs.MaskLaws.{column_narrow}
-use Rattle.settled.proofs.test.test.Goals.{Start}
-use Rattle.settled.proofs.test.test.Goals.{After-entry-e}
-use Rattle.settled.proofs.test.test.Goals.{After-meets}
+use Rattle.settled.proofs.test.test.Goals.{Start, After-entry-e, After-meets}
 use Rattle.settled.proofs.test.test.Goals as goal
 
 -- an order has at most four entries

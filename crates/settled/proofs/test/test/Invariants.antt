@@ -1,12 +1,10 @@
-use lib.ListN.{get_or}
+use lib.ListN.{get_or, length}
 use Rattle.theory.specs.Orders.{column}
 use Rattle.orders.specs.Orders.{order_of}
 use Prim.Native.Nat.{◌-◌, ◌<◌, ◌≤◌}
 use mathlib.Core.Path.{◌≡◌}
 use mathlib.Core.Bool.{false}
-use lib.ListN.{length, get_or}
 use Rattle.theory.specs.Tests.{in_mask}
-use Rattle.theory.specs.Orders.{column}
 use Rattle.settled.proofs.TestLaws.{Midway}
 use Rattle.settled.proofs.test.test.Given as goal
 
