@@ -57,7 +57,7 @@ module _ (m m' : Bytes) (keeps : (j : ℕ) → in_bits m j ≡ true → in_bits 
   bit_more true b f = rw (f refl) (omega arith)
   bit_more false b f = omega arith
 
-  below_more : (n : ℕ) → bits_below n m ≤ bits_below n m'
+  pub below_more : (n : ℕ) → bits_below n m ≤ bits_below n m'
   below_more zero = omega arith
   below_more (suc n) = omega (arith, bit_more (in_bits m n) (in_bits m' n) (keeps n), below_more n)
 

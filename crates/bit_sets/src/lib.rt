@@ -9,7 +9,7 @@ pub fn has(bits: &[u8], i: usize) -> bool
     requires { i / 8 < length bits.now }
     ensures { result ≡ in_bits bits.now i }
 {
-    (bits[i / 8] >> (i % 8)) % 2 == 1
+    (bits[i / 8] >> (i % 8)) & 1 == 1
 }
 
 // Put i into the set.
@@ -17,5 +17,5 @@ pub fn add(bits: &mut [u8], i: usize)
     requires { i / 8 < length bits.old }
     ensures { (bits.new ≡ with_bit bits.old i) × (length bits.new ≡ length bits.old) }
 {
-    bits[i / 8] = bits[i / 8] | (1u8 << (i % 8));
+    bits[i / 8] |= 1 << (i % 8);
 }

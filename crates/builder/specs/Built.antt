@@ -1,19 +1,19 @@
--- What a build answers, from its outcome: the refusal, or 0; and the table's length, which is 0 on refusal.
-use Rattle.std.specs.Prelude.{ℕ, ◌≡◌, length}
-use Rattle.theory.specs.Refusals.{passed}
+-- What a build answers, from its outcome: the table's length, or the refusal.
+use Rattle.std.specs.Prelude.{ℕ, ◌≡◌, Result, length}
 use Rattle.theory.specs.Query.{Bytes}
-use Rattle.theory.specs.Table.{Table, Sized}
+use Rattle.theory.specs.Table.{Table, Sized, Answer, grant, refuse}
 use Rattle.theory.specs.Scratch.{Stored}
 use Rattle.theory.specs.Build.{Outcome, refused, built, written}
-use Rattle.builder.specs.declared.Built.{Built}
+use Rattle.numbers.specs.declared.refusals.Refusal.{Refusal}
+use Rattle.numbers.specs.Refusals.{answer_in}
 
-abbrev pub built_answer : Outcome → Built
-built_answer (refused n) = record { refusal = n; length = 0 }
-built_answer (built t) = record { refusal = passed; length = length t }
+abbrev pub built_answer : Outcome → Answer
+built_answer (refused n) = refuse n
+built_answer (built t) = grant (length t)
 
 -- The answer is the outcome's, and so is every byte of the output.
-pub record Done (o : Outcome) (before after : Bytes) (r : Built) : Type 0 where
-  pub answer : r ≡ built_answer o
+pub record Done (o : Outcome) (before after : Bytes) (r : Result ℕ Refusal) : Type 0 where
+  pub answer : answer_in r ≡ built_answer o
   pub output : after ≡ written o before
 
 -- The scratch has a table whose sizes are within their limits: q states, p produced orders, e tested ones and s sets.

@@ -18,15 +18,7 @@ pub fn byte(bytes: &[u8], i: usize) -> u8
 pub fn word(low: u8, high: u8) -> u16
     ensures { result ≡ low + 256 * high }
 {
-    low as u16 + 256 * (high as u16)
-}
-
-// The row reader: the first bytes of a part that starts at a row.
-fn first(part: &[u8], width: usize) -> &[u8]
-    requires { width ≤ length part.now }
-    ensures { (result.now ≡ take width part.now) × (length result.now ≡ width) }
-{
-    &part[..width]
+    u16::from_le_bytes([low, high])
 }
 
 // The n bytes from a place on, as they are in the bytes.
@@ -34,7 +26,7 @@ pub fn part(bytes: &[u8], at: usize, n: usize) -> &[u8]
     requires { at + n ≤ length bytes.now }
     ensures { (result.now ≡ take n (drop at bytes.now)) × (length result.now ≡ n) }
 {
-    first(&bytes[at..], n)
+    &bytes[at..at + n]
 }
 
 // Row i of an array of rows that begins at `base`, as it is in the bytes.
@@ -50,20 +42,14 @@ pub fn copy(out: &mut [u8], at: usize, from: &[u8])
     requires { at + length from.now ≤ length out.old }
     ensures { out.new ≡ paste out.old at from.now (length from.now) }
 {
-    let mut i = 0;
-    while i < from.len() {
-        out[at + i] = from[i];
-        i += 1;
-    }
+    out[at..at + from.len()].copy_from_slice(from);
 }
 
 // Every byte becomes 0.
 pub fn clear(part: &mut [u8])
     ensures { part.new ≡ zeroed (length part.old) part.old }
 {
-    let mut i = 0;
-    while i < part.len() {
-        part[i] = 0;
-        i += 1;
+    for byte in part.iter_mut() {
+        *byte = 0;
     }
 }

@@ -12,9 +12,6 @@ use Rattle.theory.proofs.QueryLaws.{produced_count_lem}
 use Rattle.choices.specs.Words.{bytes_under, settled_orders}
 
 module _ (b : Bytes) (k choices : ℕ) (e : choices ≡ 2 ^ (read_query b).sets) where
-  pub some_choice : 0 < choices
-  some_choice = rw e (pow_pos (read_query b).sets)
-
   pub order_below : k < pair_count (read_query b) → k / choices < produced_count b
   order_below h = rw (e, ← produced_count_lem b) ((div-lt_iff_lt-mul (pow_pos (read_query b).sets)).1 h)
 

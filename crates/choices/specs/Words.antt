@@ -1,24 +1,13 @@
 -- The held word of each pair of a produced order and a choice of sets in force, in its place in the scratch.
-use Rattle.std.specs.Prelude.{ℕ, zero, suc, ◌+◌, ◌^◌, ◌≤◌, ◌<◌, ◌≡◌, Bool, List, [], map, length, get_or}
+use Rattle.std.specs.Prelude.{ℕ, zero, suc, ◌+◌, ◌^◌, ◌<◌, ◌≡◌, Bool, List, [], map, length, get_or}
 use Rattle.theory.specs.Tests.{up_from, bits_of}
 use Rattle.theory.specs.Orders.{Rule}
 use Rattle.theory.specs.Settled.{is_held}
 use Rattle.theory.specs.Construction.{held_under}
-use Rattle.theory.specs.Refusals.{passed}
-use Rattle.theory.specs.Query.{Bytes, order_count, order_at, read_query, query_refusal}
+use Rattle.theory.specs.Query.{Bytes, order_count, order_at, read_query}
 use Rattle.theory.specs.Table.{number, held_bytes}
 use Rattle.theory.specs.Placed.{placed}
 use Rattle.theory.specs.Scratch.{pair_at, word_at}
-use Rattle.closure.specs.RuleMasks.{Prepared}
-
--- The query passed checks 1 to 6, and the test is prepared for the rules.
-pub record InForce (b : Bytes) (rs : List Rule) (left right : List ℕ) (n start : ℕ) (classes : List ℕ) : Type 0 where
-  pub checked : query_refusal b ≡ passed
-  pub few : n ≤ 32
-  pub left_length : length left ≡ 32
-  pub right_length : length right ≡ 32
-  pub classes_length : length classes ≡ 16
-  pub prepared : Prepared rs left right n start classes
 
 -- Which interesting orders are held from produced order p under the rules.
 abbrev pub held_bits : Bytes → List Rule → ℕ → List Bool

@@ -3,9 +3,13 @@ ghost use Rattle.std.specs.Prelude.{◌≡◌, List, ◌+◌, ◌*◌, ◌<◌};
 ghost use Rattle.theory.specs.Orders.{Rule};
 ghost use Rattle.theory.specs.Query.{produced_count};
 ghost use Rattle.theory.specs.Table.{bit, number};
-ghost use Rattle.choices.specs.Words.{InForce, held_bits};
+ghost use Rattle.closure.specs.RuleMasks.{Prepared};
+ghost use Rattle.choices.specs.Words.{held_bits};
 
+use closure::PreparedRules;
 use handles::OrderHandle;
+use numbers::limits::MAX_ARROWS;
+use query::CheckedQuery;
 use settled::test;
 
 // The word with one bit more, below the others.
@@ -13,32 +17,20 @@ fn with_bit(word: u16, b: bool) -> u16
     requires { word < 32768 }
     ensures { result ≡ bit b + 2 * word }
 {
-    if b { 1 + 2 * word } else { 2 * word }
+    u16::from(b) + 2 * word
 }
 
 // The held bits of produced order p, from the last order down.
-pub fn word(
-    query: &[u8],
-    left: &[u16],
-    right: &[u16],
-    n: usize,
-    start: u16,
-    classes: &[u16],
-    p: u8,
-) -> u16
-    requires { ((rs : List Rule) × InForce query.now rs left.now right.now n start classes.now) × (p < produced_count query.now) }
-    ensures { (rs : List Rule) → InForce query.now rs left.now right.now n start classes.now → result ≡ number (held_bits query.now rs p) }
+pub fn word(query: &CheckedQuery, rules: &PreparedRules<MAX_ARROWS>, p: u8) -> u16
+    requires { ((rs : List Rule) × Prepared rs rules.now.arrows.items rules.now.start rules.now.classes) × (p < produced_count query.now) }
+    ensures { (rs : List Rule) → Prepared rs rules.now.arrows.items rules.now.start rules.now.classes → result ≡ number (held_bits query.now rs p) }
 {
-    let produced = query::order(query, OrderHandle(p));
+    let bytes = query.bytes();
+    let produced = query::order(bytes, OrderHandle(p));
     let mut word: u16 = 0;
-    let mut i = query_sizes::produced(query) + query_sizes::tested(query);
-    while 0 < i {
-        i -= 1;
-        let order = query::order(query, OrderHandle(i));
-        word = with_bit(
-            word,
-            test::held(left, right, n, start, classes, produced, order),
-        );
+    for i in (0..query_sizes::produced(bytes) + query_sizes::tested(bytes)).rev() {
+        let order = query::order(bytes, OrderHandle(i));
+        word = with_bit(word, test::held(rules, produced, order));
     }
     word
 }

@@ -1,43 +1,51 @@
-// Closing a mask under arrows: where it has all columns of an arrow's left one, it gets those of the right one. The function requires what its callers have shown: it is no entry
-// point.
+// Closing a mask under arrows: where it has all columns of an arrow's left one, it gets those of the right one. And the rules in force as the closure test is given them.
 #![tactic(auto)]
 
-ghost use Rattle.std.specs.Prelude.{◌≡◌, ◌≤◌, length};
+ghost use Rattle.std.specs.Prelude.{◌≡◌};
 ghost use Rattle.closure.specs.Closing.{used, pass, Closes};
 
+use arrayvec::ArrayVec;
+use arrows::Arrow;
+use numbers::limits::MASK_BITS;
+
+// What the closure test is given of the rules in force: the arrows that stand for them, the mask of the columns that are settled from the start, before any entry, and for each column
+// the mask of its class.
+#[derive(Drop)]
+pub struct PreparedRules<const N: usize> {
+    pub arrows: ArrayVec<Arrow, N>,
+    pub start: u16,
+    pub classes: [u16; MASK_BITS],
+}
+
 // One arrow is used.
-fn used(left: u16, right: u16, mask: u16) -> u16
-    ensures { result ≡ used left right mask }
+fn used(arrow: Arrow, mask: u16) -> u16
+    ensures { result ≡ used arrow mask }
 {
-    if mask | left == mask {
-        mask | right
+    if mask | arrow.left == mask {
+        mask | arrow.right
     } else {
         mask
     }
 }
 
-// The first n arrows are used, one after the other.
-fn pass(left: &[u16], right: &[u16], n: usize, mask: u16) -> u16
-    requires { (n ≤ length left.now) × (n ≤ length right.now) }
-    ensures { result ≡ pass left.now right.now n mask }
+// The arrows are used, one after the other.
+fn pass(arrows: &[Arrow], mask: u16) -> u16
+    ensures { result ≡ pass arrows.now mask }
 {
     let mut all = mask;
-    let mut i = 0;
-    while i < n {
-        all = used(left[i], right[i], all);
-        i += 1;
+    for &arrow in arrows {
+        all = used(arrow, all);
     }
     all
 }
 
-// All that the first n arrows give from the mask: passes, until one adds nothing.
-pub fn close(left: &[u16], right: &[u16], n: usize, mask: u16) -> u16
-    requires { (n ≤ length left.now) × (n ≤ length right.now) }
-    ensures { Closes left.now right.now n mask result }
+// All that the arrows give from the mask: passes, until one adds nothing.
+pub fn close(arrows: &[Arrow], mask: u16) -> u16
+    ensures { Closes arrows.now mask result }
 {
     let mut all = mask;
     loop {
-        let next = pass(left, right, n, all);
+        let next = pass(arrows, all);
         if next == all {
             return all;
         }

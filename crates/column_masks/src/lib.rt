@@ -29,12 +29,9 @@ pub fn mask(o: Order) -> u16
     requires { Narrow (order_of o) }
     ensures { MaskOf (order_of o) result }
 {
-    let n = orders::length(o);
     let mut all: u16 = 0;
-    let mut i = 0;
-    while i < n {
-        all |= bit(orders::entry(o, i));
-        i += 1;
+    for &column in o.entries() {
+        all |= bit(column);
     }
     all
 }

@@ -8,76 +8,66 @@ ghost use Rattle.theory.specs.Machine.{SameAnswers};
 ghost use Rattle.theory.specs.Limits.{max_states, max_joint_states};
 ghost use Rattle.theory.specs.Scratch.{joint_states_length};
 ghost use Rattle.theory.specs.Table.{states_in, sizes_in, held_orders, machine_in};
-ghost use Rattle.joint_states.specs.JointStates.{Comparable, JointWalking};
+ghost use Rattle.joint_states.specs.JointStates.{JointWalking};
 ghost use Rattle.comparison.specs.Alike.{AlikeFrom};
 
 use handles::StateNumber;
+use joint_states::TwoTables;
 use numbers::limits::MAX_STATES;
 
 // Whether two states hold the same orders, one of each table.
-fn same_held(ours: &[u8], theirs: &[u8], x: StateNumber, y: StateNumber) -> bool
-    requires { Comparable ours.now theirs.now × (x.0 < states_in ours.now) × (y.0 < states_in theirs.now) }
-    ensures { Says (held_orders ours.now x.0 ≡ held_orders theirs.now y.0) result }
+fn same_held(tables: &TwoTables, x: StateNumber, y: StateNumber) -> bool
+    requires { (x.0 < states_in tables.now.ours) × (y.0 < states_in tables.now.theirs) }
+    ensures { Says (held_orders tables.now.ours x.0 ≡ held_orders tables.now.theirs y.0) result }
 {
-    table::held_word(ours, x) == table::held_word(theirs, y)
+    tables.ours().held_word(x) == tables.theirs().held_word(y)
 }
 
 // Whether the two states of joint state i hold the same, if it is in the set.
-fn alike(ours: &[u8], theirs: &[u8], reached: &[u8], i: usize) -> bool
-    requires { JointWalking ours.now theirs.now reached.now × (i < max_joint_states) }
-    ensures { Says (AlikeFrom ours.now theirs.now reached.now i (i + 1)) result }
+fn alike(tables: &TwoTables, reached: &[u8], i: usize) -> bool
+    requires { JointWalking tables.now.ours tables.now.theirs reached.now × (i < max_joint_states) }
+    ensures { Says (AlikeFrom tables.now.ours tables.now.theirs reached.now i (i + 1)) result }
 {
-    if bit_sets::has(reached, i) {
-        same_held(
-            ours,
-            theirs,
-            StateNumber((i / MAX_STATES) as u8),
-            StateNumber((i % MAX_STATES) as u8),
-        )
-    } else {
-        true
-    }
+    let ours = StateNumber((i / MAX_STATES) as u8);
+    let theirs = StateNumber((i % MAX_STATES) as u8);
+    !bit_sets::has(reached, i) || same_held(tables, ours, theirs)
 }
 
 // The eight joint states of a byte.
-fn alike_byte(ours: &[u8], theirs: &[u8], reached: &[u8], k: usize) -> bool
-    requires { JointWalking ours.now theirs.now reached.now × (k < joint_states_length) }
-    ensures { Says (AlikeFrom ours.now theirs.now reached.now (8 * k) (8 * k + 8)) result }
+fn alike_byte(tables: &TwoTables, reached: &[u8], k: usize) -> bool
+    requires { JointWalking tables.now.ours tables.now.theirs reached.now × (k < joint_states_length) }
+    ensures { Says (AlikeFrom tables.now.ours tables.now.theirs reached.now (8 * k) (8 * k + 8)) result }
 {
     if reached[k] == 0 {
         return true;
     }
-    let mut j = 0;
-    while j < 8 {
-        if !alike(ours, theirs, reached, 8 * k + j) {
+    for j in 0..8 {
+        if !alike(tables, reached, 8 * k + j) {
             return false;
         }
-        j += 1;
     }
     true
 }
 
 // All joint states of the set.
-fn all_alike(ours: &[u8], theirs: &[u8], reached: &[u8]) -> bool
-    requires { JointWalking ours.now theirs.now reached.now }
-    ensures { Says (AlikeFrom ours.now theirs.now reached.now 0 (max_states * states_in ours.now)) result }
+fn all_alike(tables: &TwoTables, reached: &[u8]) -> bool
+    requires { JointWalking tables.now.ours tables.now.theirs reached.now }
+    ensures { Says (AlikeFrom tables.now.ours tables.now.theirs reached.now 0 (max_states * states_in tables.now.ours)) result }
 {
-    let n = MAX_STATES / 8 * table::states(ours);
-    let mut k = 0;
-    while k < n {
-        if !alike_byte(ours, theirs, reached, k) {
+    let n = MAX_STATES / 8 * table::states(tables.ours().bytes());
+    for k in 0..n {
+        if !alike_byte(tables, reached, k) {
             return false;
         }
-        k += 1;
     }
     true
 }
 
 // Whether the two tables hold the same orders from every start and through every run of sets. The joint states are held in the memory that is lent for them, whatever it has.
-pub fn same_answers(ours: &[u8], theirs: &[u8], reached: &mut [u8]) -> bool
-    requires { Comparable ours.now theirs.now × (length reached.old ≡ joint_states_length) }
-    ensures { Says (SameAnswers (sizes_in ours.now) (machine_in ours.now) (machine_in theirs.now)) result × (length reached.new ≡ length reached.old) }
+pub fn same_answers(tables: &TwoTables, reached: &mut [u8]) -> bool
+    requires { length reached.old ≡ joint_states_length }
+    ensures { Says (SameAnswers (sizes_in tables.now.ours) (machine_in tables.now.ours) (machine_in tables.now.theirs)) result × (length reached.new ≡ length reached.old) }
 {
-    joint_states::reach(ours, theirs, reached);
-    all_alike(ours, theirs, reached)
+    joint_states::reach(tables, reached);
+    all_alike(tables, reached)
 }

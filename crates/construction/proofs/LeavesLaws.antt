@@ -1,17 +1,18 @@
 -- What constructing leaves: refusal 8, or the table of the words that lie in the scratch.
 use Prim.Native.Nat.{ℕ, ◌<◌, ◌≤◌}
 use native.Mathlib.Omega.{arith}
-use mathlib.Core.Path.{◌≡◌, sym, ◌∙◌, ap, subst}
+use mathlib.Core.Path.{◌≡◌, refl, sym, ◌∙◌, ap, subst}
 use mathlib.Core.Bool.{Bool, true, false}
-use lib.ListN.{length}
+use Rattle.std.specs.Prelude.{Option, Some, None, Ok, Err, ok_or}
+use Rattle.numbers.specs.declared.refusals.Refusal.TheVariants.{States}
 use borrow.Author.Tests.{lt-ltb, le-ltb}
 use Rattle.theory.specs.Tests.{Says, holds, fails}
 use Rattle.theory.specs.Limits.{max_states}
-use Rattle.theory.specs.Refusals.{passed, states_refused}
+use Rattle.theory.specs.Refusals.{passed}
 use Rattle.theory.specs.Orders.{Query}
 use Rattle.theory.specs.Construction.{sizes_of_query}
 use Rattle.theory.specs.Query.{Bytes, produced_count, tested_count, set_count, read_query}
-use Rattle.theory.specs.Table.{Table}
+use Rattle.theory.specs.Table.{Table, grant}
 use Rattle.theory.specs.Scratch.{Stored}
 use Rattle.theory.specs.Build.{too_many, table, limited, construct}
 use Rattle.theory.specs.Build as theory
@@ -21,21 +22,14 @@ use Rattle.theory.proofs.Reflect.{says_ltb}
 use Rattle.theory.proofs.QueryLaws.{produced_count_lem, tested_count_lem, set_count_lem}
 use Rattle.choices.specs.Words.{WordsAre}
 use Rattle.table_rows.specs.Rows.{RowsFound}
-use Rattle.table_rows.specs.Walk.{sizes_given}
-use Rattle.construction.specs.Constructed.{constructed_answer, counted, Leaves}
+use Rattle.query_sizes.specs.declared.Sizes as given
+use Rattle.table_rows.specs.Walk.{sizes_of}
+use Rattle.construction.specs.Constructed.{constructed_answer, Leaves}
 
 -- the table that was constructed, or another
 contents : Table → theory.Constructed → Table
 contents other too_many = other
 contents other (table t) = t
-
-counted_over : (r : ℕ) → max_states < r → counted r ≡ record { refusal = states_refused; rows = 0 }
-unfolding counted
-counted_over r h = rw (lt-ltb max_states r h)
-
-counted_few : (r : ℕ) → r ≤ max_states → counted r ≡ record { refusal = passed; rows = r }
-unfolding counted
-counted_few r h = rw (le-ltb max_states r h)
 
 -- a table past the limit and one within it
 limited_many : (t : Table) → max_states < t.state_count → limited t ≡ too_many
@@ -52,28 +46,24 @@ module _ (b work : Bytes) where
   abbrev merged : Table
   merged = merged_table q work
 
-  found_left : {after : Bytes} {r : ℕ} → RowsFound (sizes_of_query q) work after r → Leaves (limited merged) after (counted r)
+  found_left : {after : Bytes} (r : Option ℕ) → RowsFound (sizes_of_query q) work after r → Leaves (limited merged) after (ok_or r States)
   unfolding contents
-  found_left {after} {r} found = go (says_ltb max_states r)
-    where
-      go : {past : Bool} → Says (max_states < r) past → Leaves (limited merged) after (counted r)
-      go (holds h) =
-          subst (λ o. Leaves o after (counted r)) (sym (limited_many merged (found.over h)))
-          (record { answer = counted_over r h; stored = λ t d. let z : ◌≡◌ {A = ℕ} 0 1 = cc in let f : ⊥ = omega arith in absurd f })
-      go (fails h) =
-          let fits = found.fits (omega arith) in
-          let rows_are = fits.0 in
-          subst (λ o. Leaves o after (counted r)) (sym (limited_few merged (omega (arith, rows_are))))
-          (record {
-            answer = counted_few r (omega arith) ∙ (λ i. record { refusal = passed; rows = rows_are i });
-            stored = λ t e. subst (λ k. Stored k after) (ap (contents merged) e) fits.1;
-          })
+  found_left {after} None many =
+      subst (λ o. Leaves o after (Err States)) (sym (limited_many merged many))
+      (record { answer = refl; stored = λ t e. let f : ⊥ = cc in absurd f })
+  found_left {after} (Some r) found =
+      subst (λ o. Leaves o after (Ok r)) (sym (limited_few merged (omega (arith, found.few, found.all))))
+      (record { answer = ap grant found.all; stored = λ t e. subst (λ k. Stored k after) (ap (contents merged) e) found.stored })
 
-  pub rows_left : {after : Bytes} {r p t s : ℕ} → p ≡ produced_count b → t ≡ tested_count b → s ≡ set_count b → RowsFound (sizes_given p t s) work after r → Leaves (limited merged) after (counted r)
-  rows_left {after} {r} {p} {t} {s} ep et es found =
-      found_left
-      (subst (λ m. RowsFound (sizes_given (length q.produced) (length q.tested) m) work after r) (es ∙ sym (set_count_lem b))
-      (subst (λ m. RowsFound (sizes_given (length q.produced) m s) work after r) (et ∙ sym (tested_count_lem b)) (subst (λ m. RowsFound (sizes_given m t s) work after r) (ep ∙ sym (produced_count_lem b)) found)))
+  pub rows_left : {after : Bytes} (r : Option ℕ) (sizes : given.Sizes) → sizes.produced ≡ produced_count b → sizes.tested ≡ tested_count b → sizes.sets ≡ set_count b →
+      RowsFound (sizes_of sizes) work after r → Leaves (limited merged) after (ok_or r States)
+  rows_left {after} r sizes ep et es found =
+      let same : sizes_of sizes ≡ sizes_of_query q = (λ i. record {
+        produced = (ep ∙ sym (produced_count_lem b)) i;
+        tested = (et ∙ sym (tested_count_lem b)) i;
+        sets = (es ∙ sym (set_count_lem b)) i;
+      }) in
+      found_left r (subst (λ z. RowsFound z work after r) same found)
 
 -- where the answer has no refusal, the table is within the limit
 pub granted_table : (t : Table) → (constructed_answer (limited t)).refusal ≡ passed → t.state_count ≤ max_states

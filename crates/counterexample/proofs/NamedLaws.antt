@@ -1,17 +1,15 @@
 -- Which numbers are in the query, by its sizes, and when two rows can be asked for.
-use Prim.Native.Nat.{ℕ, ◌+◌, ◌*◌, ◌/◌, ◌^◌, ◌<◌, ◌≤◌}
-use native.Mathlib.Nat.{div-eq_of_lt, lt-div-mul-add}
+use Prim.Native.Nat.{ℕ, ◌*◌, ◌^◌, ◌<◌, ◌≤◌}
 use native.Mathlib.Omega.{arith}
 use mathlib.Core.Path.{◌≡◌, sym, subst}
 use mathlib.Core.Bool.{Bool}
-use lib.Dec.{eqb}
+use lib.Dec.{ltb}
 use lib.ListN.{length}
-use lib.Pow.{pow_pos}
 use Rattle.theory.specs.Tests.{Says, holds, fails}
 use Rattle.theory.specs.Query.{Bytes, column_count, produced_count, set_count, order_count, read_query, query_refusal}
 use Rattle.theory.specs.Refusals.{passed}
 use Rattle.theory.specs.Counterexamples.{Named, Askable}
-use Rattle.theory.proofs.Reflect.{says_eqb}
+use Rattle.theory.proofs.Reflect.{says_ltb}
 use Rattle.theory.proofs.BitLaws.{bit_low, low_bits}
 use Rattle.theory.proofs.QueryLaws.{column_count_lem, produced_count_lem, order_count_lem, set_count_lem}
 
@@ -25,18 +23,18 @@ module _ (b : Bytes) (produced sets order : ℕ) where
   not_looked_for h n = let z : ⊥ = omega (arith, n.looked_for_below, order_count_lem b) in absurd z
 
   -- where they have, the bits of the choice decide
-  pub chosen_says : produced < produced_count b → order < order_count b → Says (Named (read_query b) produced sets order) (eqb (sets / 2 ^ set_count b) 0)
-  chosen_says p o = go (says_eqb (sets / 2 ^ set_count b) 0)
+  pub chosen_says : produced < produced_count b → order < order_count b → Says (Named (read_query b) produced sets order) (ltb sets (2 ^ set_count b))
+  chosen_says p o = go (says_ltb sets (2 ^ set_count b))
     where
-      go : {r : Bool} → Says (sets / 2 ^ set_count b ≡ 0) r → Says (Named (read_query b) produced sets order) r
-      go (holds e) =
+      go : {r : Bool} → Says (sets < 2 ^ set_count b) r → Says (Named (read_query b) produced sets order) r
+      go (holds h) =
           holds
           record {
             entered = omega (arith, produced_count_lem b);
             looked_for_below = omega (arith, order_count_lem b);
-            chosen = λ s t. subst (λ n. s < n) (sym (set_count_lem b)) (bit_low (set_count b) sets s (omega (arith, subst (λ n. sets < n * 2 ^ set_count b + 2 ^ set_count b) e (lt-div-mul-add (pow_pos (set_count b))))) t);
+            chosen = λ s t. subst (λ n. s < n) (sym (set_count_lem b)) (bit_low (set_count b) sets s h t);
           }
-      go (fails f) = fails (λ n. f (div-eq_of_lt (low_bits (set_count b) sets (λ s t. subst (λ k. s < k) (set_count_lem b) (n.chosen s t)))))
+      go (fails f) = fails (λ n. f (low_bits (set_count b) sets (λ s t. subst (λ k. s < k) (set_count_lem b) (n.chosen s t))))
 
   -- where two rows of n values fit as well, they can be asked for
   pub askable : (rows : Bytes) {n : ℕ} → 2 * n ≤ length rows → n ≡ column_count b → query_refusal b ≡ passed → Named (read_query b) produced sets order →

@@ -2,102 +2,89 @@
 // a choice says whether set i is in force.
 #![tactic(auto)]
 
-ghost use Rattle.std.specs.Prelude.{◌≡◌, ◌*◌, ◌<◌};
+ghost use Rattle.std.specs.Prelude.{◌≡◌, ◌*◌, ◌<◌, Ok};
 ghost use Rattle.theory.specs.Tests.{Says};
-ghost use Rattle.theory.specs.Refusals.{passed};
-ghost use Rattle.theory.specs.Query.{order_count, order_at, read_query, query_refusal};
+ghost use Rattle.theory.specs.Query.{order_count, order_at, read_query};
 ghost use Rattle.theory.specs.Counterexamples.{Named, Askable, Shows};
 ghost use Rattle.rules_in_force.specs.Rules.{rules_at};
 ghost use Rattle.settled.specs.Ends.{Ends};
 ghost use Rattle.counterexample.specs.Answers.{found_answer, ListedFound};
 
 use handles::{OrderHandle, SetChoice};
-use numbers::refusals;
-use settled::{Tested, test};
-
-// Two rows were written, there are none, or the refusal.
-#[derive(Clone, Copy)]
-pub enum Found {
-    TwoRows,
-    None,
-    Refused(u8),
-}
+use numbers::refusals::Refusal;
+use query::CheckedQuery;
+use settled::{Stop, test};
 
 // Whether the produced order, the interesting order and every bit of the choice are in the query.
-fn named(query: &[u8], produced: OrderHandle, sets: SetChoice, order: OrderHandle) -> bool
-    requires { query_refusal query.now ≡ passed }
+fn named(query: &CheckedQuery, produced: OrderHandle, sets: SetChoice, order: OrderHandle) -> bool
     ensures { Says (Named (read_query query.now) produced.0 sets.0 order.0) result }
 {
-    if query_sizes::produced(query) <= produced.0 {
+    let sizes = query.sizes();
+    if sizes.produced <= produced.0 as usize {
         return false;
     }
-    if query::bytes::order_count(query) <= order.0 as u16 {
+    if sizes.orders() <= order.0 as usize {
         return false;
     }
-    sets.0 as u16 >> query_sizes::sets(query) == 0
+    (sets.0 as usize) < sizes.choices()
 }
 
 // The closure test of two of the query's orders, under the choice.
-fn tested(query: &[u8], produced: OrderHandle, sets: SetChoice, order: OrderHandle) -> Tested
-    requires { (query_refusal query.now ≡ passed) × (produced.0 < order_count query.now) × (order.0 < order_count query.now) }
+fn tested(
+    query: &CheckedQuery,
+    produced: OrderHandle,
+    sets: SetChoice,
+    order: OrderHandle,
+) -> Option<Stop>
+    requires { (produced.0 < order_count query.now) × (order.0 < order_count query.now) }
     ensures { Ends (rules_at query.now sets.0) (order_at query.now produced.0) (order_at query.now order.0) result }
 {
-    let mut left = [0u16; 32];
-    let mut right = [0u16; 32];
-    let mut classes = [0u16; 16];
-    let ready = preparation::prepare(query, sets, &mut left, &mut right, &mut classes);
-    let n = ready.arrows;
-    let start = ready.start;
-    let p = query::order(query, produced);
-    let o = query::order(query, order);
-    test::test(&left, &right, n, start, &classes, p, o)
+    let rules = preparation::prepare(query, sets);
+    let bytes = query.bytes();
+    let p = query::order(bytes, produced);
+    let o = query::order(bytes, order);
+    test::test(&rules, p, o)
 }
 
-// Two rows where the test stops, and none where the order is held.
+// Two rows where the test stops, and none where the order is held. Whether there are two.
 fn show(
-    query: &[u8],
+    query: &CheckedQuery,
     produced: OrderHandle,
     sets: SetChoice,
     order: OrderHandle,
     rows: &mut [u8],
-) -> Found
+) -> bool
     requires { Askable query.now produced.0 sets.0 order.0 rows.old }
-    ensures { Shows query.now produced.0 sets.0 order.0 rows.old (found_answer result) rows.new × ListedFound result }
+    ensures { Shows query.now produced.0 sets.0 order.0 rows.old (found_answer (Ok result)) rows.new }
 {
-    let n = query_sizes::columns(query) as usize;
+    let n = query_sizes::columns(query.bytes()) as usize;
     match tested(query, produced, sets, order) {
-        Tested::Held => Found::None,
-        Tested::Stopped {
-            settled,
-            class,
-            ascends,
-        } => {
-            two_rows::write(rows, n, ascends, settled, class);
-            Found::TwoRows
+        Some(stop) => {
+            two_rows::write(rows, n, stop);
+            true
         }
+        None => false,
     }
 }
 
-// Whatever the query's bytes, the numbers and the buffer: the query's checks 1 to 6, 10, 9 for the buffer; then two rows, row after row, or none. Nothing else is written.
+// Whatever the query's bytes, the numbers and the buffer: the query's checks 1 to 6, 10, 9 for the buffer; then two rows, row after row, or none, and whether there are two.
+// Nothing else is written.
 pub fn find(
     query: &[u8],
     produced: OrderHandle,
     sets: SetChoice,
     order: OrderHandle,
     rows: &mut [u8],
-) -> Found
+) -> Result<bool, Refusal>
     ensures shows { Shows query.now produced.0 sets.0 order.0 rows.old (found_answer result) rows.new }
     ensures listed_found { ListedFound result }
 {
-    let refusal = query_check::check(query);
-    if refusal != refusals::PASSED {
-        return Found::Refused(refusal);
+    let checked = query_check::check(query)?;
+    if !named(&checked, produced, sets, order) {
+        return Err(Refusal::Handle);
     }
-    if !named(query, produced, sets, order) {
-        return Found::Refused(refusals::HANDLE);
+    if rows.len() < 2 * query_sizes::columns(query) as usize {
+        return Err(Refusal::Space);
     }
-    if 2 * query_sizes::columns(query) as usize <= rows.len() {
-        return show(query, produced, sets, order, rows);
-    }
-    Found::Refused(refusals::SPACE)
+    Ok(show(&checked, produced, sets, order, rows))
 }

@@ -1,8 +1,6 @@
 -- A word that is a number in decimal, the number, and what a reading says of it.
-use Rattle.std.specs.Prelude.{ℕ, ◌+◌, ◌*◌, ◌-◌, ◌≤◌, ◌<◌, min, ◌≡◌, [], ◌∷◌, length}
+use Rattle.std.specs.Prelude.{ℕ, ◌+◌, ◌*◌, ◌-◌, ◌≤◌, ◌<◌, min, ◌≡◌, [], ◌∷◌, length, Option, Some, None}
 use Rattle.theory.specs.Query.{Bytes, byte_at}
-use Rattle.decimal.specs.declared.Word.{Word}
-use Rattle.decimal.specs.declared.Word.TheVariants as word
 
 -- The first number that no byte holds. It stands for every larger one too.
 abbrev pub large_number : ℕ
@@ -38,6 +36,6 @@ abbrev pub value_of : Bytes → ℕ
 value_of w = value_with 0 w
 
 -- A reading gives a number's value, or that it is large, and says of every other word that it is no number.
-abbrev pub Reads : Bytes → Word → Type 0
-Reads w (word.Number n) = Decimal w × (n ≡ min (value_of w) large_number)
-Reads w word.Other = ¬ Decimal w
+abbrev pub Reads : Bytes → Option ℕ → Type 0
+Reads w (Some n) = Decimal w × (n ≡ min (value_of w) large_number)
+Reads w None = ¬ Decimal w

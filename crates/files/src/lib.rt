@@ -4,7 +4,7 @@
 ghost use Rattle.std.specs.Prelude.{length};
 ghost use Rattle.input.specs.Within.{ReadWithin};
 
-use input::{Input, read_front};
+use input::read_front;
 use std::env::FillError;
 use std::fmt::InlineText;
 use std::io::Write;
@@ -45,13 +45,23 @@ fn open<R: Files>(rt: &R, name: &[u8]) -> io::Result<R::File> {
 }
 
 // Reads the beginning of the file of that name.
-fn read_file<R: Files>(rt: &R, name: &[u8], buffer: &mut [u8]) -> Input
+fn read_file<R: Files>(rt: &R, name: &[u8], buffer: &mut [u8]) -> io::Result<usize>
     ensures { ReadWithin result (length buffer.new) }
 {
-    match open(rt, name) {
-        Ok(mut file) => read_front(&mut file, buffer),
-        Err(error) => Input::Failed(error),
-    }
+    let mut file = open(rt, name)?;
+    read_front(&mut file, buffer)
+}
+
+// The name that an argument is, put into the buffer; how long it is.
+fn name_of<R: Env>(rt: &R, i: usize, name: &mut [u8]) -> io::Result<usize>
+    ensures { ReadWithin result (length name.new) }
+{
+    rt.arg(i, name).map_err(|error| {
+        io::Error::from_raw_os_error(match error {
+            FillError::NotPresent => EINVAL,
+            FillError::TooLong => ENAMETOOLONG,
+        })
+    })
 }
 
 // The same of the file that an argument names.
@@ -60,33 +70,19 @@ pub fn read_argument<R: Env + Files, W: Write>(
     errors: &mut W,
     i: usize,
     buffer: &mut [u8],
-) -> Input
+) -> io::Result<usize>
     ensures { ReadWithin result (length buffer.new) }
 {
     let mut name = [0u8; LONGEST_NAME];
-    let length = match rt.arg(i, &mut name) {
-        Ok(length) => length,
-        Err(error) => {
-            let error = io::Error::from_raw_os_error(match error {
-                FillError::NotPresent => EINVAL,
-                FillError::TooLong => ENAMETOOLONG,
-            });
-            fail(errors, b"the name of a file", &error);
-            return Input::Failed(error);
-        }
-    };
-    let input = read_file(rt, &name[..length], buffer);
-    if let Input::Failed(error) = &input {
-        fail(errors, &name[..length], error);
-    }
-    input
+    let length = name_of(rt, i, &mut name).inspect_err(|error| fail(
+        errors,
+        b"the name of a file",
+        error,
+    ))?;
+    read_file(rt, &name[..length], buffer).inspect_err(|error| fail(errors, &name[..length], error))
 }
 
 // Whether the program was started with an argument of that number. The program's own name is argument 0.
 pub fn is_given<R: Env>(rt: &R, i: usize) -> bool {
-    let mut nothing = [0u8; 0];
-    match rt.arg(i, &mut nothing) {
-        Err(FillError::NotPresent) => false,
-        _ => true,
-    }
+    !matches!(rt.arg(i, &mut []), Err(FillError::NotPresent))
 }

@@ -1,2 +1,2 @@
--- The answer of an ask, in document 01's numbers.
+-- The answers of a move and of an ask, in document 01's numbers.
 pub mod Answers

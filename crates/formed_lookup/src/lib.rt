@@ -1,83 +1,61 @@
-// Lookups after the form check, for callers that look up more than once in the same bytes. Those may call them that have shown `Formed` of the bytes: `table::form` or `table::check` has
-// answered 0 for them, or they are a table that was built or accepted. A number that is not in the table is refused here. Everyone else calls the
+// Lookups in a table whose form passed, for callers that look up more than once in the same bytes. A number that is not in the table is refused here. Everyone else calls the
 // crates `lookup` and `lookup_codes`, which check the form each time.
 #![tactic(auto)]
 
 ghost use Rattle.std.specs.Prelude.{◌≡◌};
 ghost use Rattle.theory.specs.Table.{grant_state, enter, take_in, ask};
-ghost use Rattle.table.specs.Form.{Formed};
-ghost use Rattle.answer_codes.specs.Codes.{answer_code};
-ghost use Rattle.formed_lookup.specs.Answers.{asked_answer, ListedAsk};
+ghost use Rattle.formed_lookup.specs.Answers.{moved_answer, asked_answer, ListedAsk};
 
-use answer_codes::refused;
 use handles::{OrderHandle, SetHandle, StateNumber};
-use numbers::{limits, refusals};
-
-// Whether an interesting order is held.
-#[derive(Clone, Copy)]
-pub enum Asked {
-    Held,
-    NotHeld,
-    Refused(u8),
-}
+use numbers::refusals::Refusal;
+use table::FormedTable;
 
 // A state that was read from the table: 11 where it is not below Q.
-fn granted(table: &[u8], state: u8) -> u32
-    ensures { result ≡ answer_code (grant_state table.now state) }
+fn granted(table: &FormedTable, state: u8) -> Result<StateNumber, Refusal>
+    ensures { moved_answer result ≡ grant_state table.now state }
 {
-    if (state as usize) < table::states(table) {
-        state as u32
+    if (state as usize) < table::states(table.bytes()) {
+        Ok(StateNumber(state))
     } else {
-        refused(refusals::ROW)
+        Err(Refusal::Row)
     }
 }
 
 // Enter by a produced order: 10, then 11.
-pub fn enter(table: &[u8], order: OrderHandle) -> u32
-    requires { Formed table.now }
-    ensures { result ≡ answer_code (enter table.now order.0) }
+pub fn enter(table: &FormedTable, order: OrderHandle) -> Result<StateNumber, Refusal>
+    ensures { moved_answer result ≡ enter table.now order.0 }
 {
-    let p = order.0 as usize;
-    if p < table::produced(table) {
-        granted(table, table[limits::TABLE_SIZES + p])
-    } else {
-        refused(refusals::HANDLE)
-    }
+    let Some(start) = table.starts().get(order.0 as usize) else {
+        return Err(Refusal::Handle);
+    };
+    granted(table, *start)
 }
 
 // Take a set in a state: 10, then 11.
-pub fn take(table: &[u8], state: StateNumber, set: SetHandle) -> u32
-    requires { Formed table.now }
-    ensures { result ≡ answer_code (take_in table.now state.0 set.0) }
+pub fn take(table: &FormedTable, state: StateNumber, set: SetHandle) -> Result<StateNumber, Refusal>
+    ensures { moved_answer result ≡ take_in table.now state.0 set.0 }
 {
-    let q = state.0 as usize;
-    let s = set.0 as usize;
-    if table::states(table) <= q {
-        return refused(refusals::HANDLE);
+    if table::states(table.bytes()) <= state.0 as usize {
+        return Err(Refusal::Handle);
     }
-    if table::sets(table) <= s {
-        return refused(refusals::HANDLE);
-    }
-    let row = table::successors(table, state);
-    granted(table, row[s])
+    let Some(successor) = table.successors(state).get(set.0 as usize) else {
+        return Err(Refusal::Handle);
+    };
+    granted(table, *successor)
 }
 
 // Ask whether an interesting order is held in a state: 10, else the order's bit of the state's word.
-pub fn ask(table: &[u8], state: StateNumber, order: OrderHandle) -> Asked
-    requires { Formed table.now }
+pub fn ask(table: &FormedTable, state: StateNumber, order: OrderHandle) -> Result<bool, Refusal>
     ensures result_value { asked_answer result ≡ ask table.now state.0 order.0 }
     ensures listed_ask { ListedAsk result }
 {
-    if table::states(table) <= state.0 as usize {
-        return Asked::Refused(refusals::HANDLE);
+    let bytes = table.bytes();
+    if table::states(bytes) <= state.0 as usize {
+        return Err(Refusal::Handle);
     }
     let i = order.0 as usize;
-    if table::produced(table) + table::tested(table) <= i {
-        return Asked::Refused(refusals::HANDLE);
+    if table::produced(bytes) + table::tested(bytes) <= i {
+        return Err(Refusal::Handle);
     }
-    if (table::held_word(table, state) >> i) % 2 == 1 {
-        Asked::Held
-    } else {
-        Asked::NotHeld
-    }
+    Ok((table.held_word(state) >> i) % 2 == 1)
 }

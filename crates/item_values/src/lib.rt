@@ -1,8 +1,8 @@
 // What an item of a query says, as one number: an order's length and entries, or a dependency's set, kind and columns, a byte each. Every function takes any bytes.
 #![tactic(auto)]
 
-ghost use Rattle.std.specs.Prelude.{◌≡◌, ◌+◌, ◌<◌, ◌≤◌, min};
-ghost use Rattle.theory.specs.Limits.{body_width, equal_kind};
+ghost use Rattle.std.specs.Prelude.{◌≡◌, ◌+◌, ◌≤◌};
+ghost use Rattle.theory.specs.Limits.{equal_kind};
 ghost use Rattle.theory.specs.Query.{order_count, order_at, dependency_at};
 ghost use Rattle.orders.specs.Orders.{order_of, rule_is};
 ghost use Rattle.item_values.specs.Values.{bytes_code, order_code, kind_code, rule_columns, dependency_code};
@@ -12,13 +12,10 @@ use numbers::limits::{BODY_WIDTH, EQUAL_KIND};
 use orders::{Order, Rule};
 
 // Up to four bytes as one number, the first lowest.
-fn bytes(o: Order) -> u64
-    ensures { (result ≡ bytes_code (order_of o)) × (result < 4294967296) }
+fn bytes(o: Order) -> u32
+    ensures { result ≡ bytes_code (order_of o) }
 {
-    orders::entry(o, 0) as u64
-        + 256 * (orders::entry(o, 1) as u64)
-        + 65536 * (orders::entry(o, 2) as u64)
-        + 16777216 * (orders::entry(o, 3) as u64)
+    u32::from_le_bytes([o.entry(0), o.entry(1), o.entry(2), o.entry(3)])
 }
 
 // What item i says as an order: its length, then its entries, a byte each, as the query has them.
@@ -26,27 +23,16 @@ pub fn order_value(query: &[u8], i: OrderHandle) -> u64
     ensures { result ≡ order_code (order_at query.now i.0) }
 {
     let o = query::order(query, i);
-    orders::length(o) as u64 + 256 * bytes(o)
+    o.length() as u64 + 256 * bytes(o) as u64
 }
 
-// How many left columns a fix has: its count, at most four.
-fn lefts(count: u8) -> u64
-    ensures { result ≡ min count body_width }
-{
-    if (count as usize) < BODY_WIDTH {
-        count as u64
-    } else {
-        BODY_WIDTH as u64
-    }
-}
-
-// A rule's kind.
-fn kind(rule: Rule) -> u64
+// A rule's kind: of a fix how many left columns it has, which are at most four.
+fn kind(rule: Rule) -> usize
     ensures { (result ≡ kind_code (rule_is rule)) × (result ≤ equal_kind) }
 {
     match rule {
-        Rule::Fix { count, a, b, c, d } => lefts(count),
-        Rule::Equal { a, b } => EQUAL_KIND as u64,
+        Rule::Fix { count, .. } => BODY_WIDTH.min(count as usize),
+        Rule::Equal { .. } => EQUAL_KIND as usize,
     }
 }
 
@@ -72,5 +58,5 @@ pub fn dependency_value(query: &[u8], i: u8) -> u64
 {
     let d = query::dependency(query, i);
     let rule = d.rule;
-    d.set as u64 + 256 * kind(rule) + 65536 * bytes(named(rule))
+    d.set as u64 + 256 * kind(rule) as u64 + 65536 * bytes(named(rule)) as u64
 }

@@ -2,7 +2,7 @@
 use Prim.Native.Nat.{ℕ, ◌<◌}
 use native.Mathlib.Omega.{arith}
 use mathlib.Core.Path.{◌≡◌, refl, sym, ◌∙◌, ap, subst}
-use mathlib.Core.Bool.{true}
+use mathlib.Core.Bool.{Bool, true}
 use mathlib.Core.List.Memᴰ
 use mathlib.Core.List.{List, [], ◌∷◌, map, Memᴰ}
 use Rattle.theory.specs.Tests.{up_from}
@@ -45,5 +45,5 @@ module _ {a b m : Bytes} (w : JointWalking a b m) where
         (starts (start_joint_state a b p) (Memᴰ.map (start_joint_state a b) (up_from_member 0 (produced_in a) (omega arith) (omega arith)))))
 
 -- the set that was grown from the starts
-pub all_together : {a b m m' m'' : Bytes} {r : ℕ} → Added 0 (map (start_joint_state a b) (up_from 0 (produced_in a))) m m' r → JointClosed a b m' m'' → AllTogether a b m''
+pub all_together : {a b m m' m'' : Bytes} {r : Bool} → Added 0 (map (start_joint_state a b) (up_from 0 (produced_in a))) m m' r → JointClosed a b m' m'' → AllTogether a b m''
 all_together d c = record { walking = c.walking; complete = in_all c.walking c.closed (λ j k. c.keeps j (d.has j k)) }

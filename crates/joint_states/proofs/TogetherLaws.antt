@@ -1,12 +1,11 @@
 -- Two comparable tables: their forms, the states of a joint state that is reached, the joint states of the starts, and the joint states that a reached joint state leads to.
-use Prim.Native.Nat.{ℕ, ◌+◌, ◌<◌}
+use Prim.Native.Nat.{ℕ, ◌<◌}
 use native.Mathlib.Omega.{arith}
 use mathlib.Core.Path.{◌≡◌, ap₂, subst}
 use mathlib.Core.List.Memᴰ
 use mathlib.Core.List.{map, Memᴰ}
 use Rattle.theory.specs.Tests.{up_from}
-use lib.ListN.{length}
-use Rattle.theory.specs.Limits.{max_states, max_joint_states, table_sizes}
+use Rattle.theory.specs.Limits.{max_states, max_joint_states}
 use Rattle.theory.specs.Machine.{Reached, both}
 use Rattle.theory.specs.Query.{Bytes}
 use Rattle.theory.specs.Table.{states_in, produced_in, sets_in, sizes_in, start_in, successor_in, machine_in, table_refusal}
@@ -67,10 +66,7 @@ module _ {a b : Bytes} (c : Comparable a b) where
   pub joint_together : (x : ℕ × ℕ) → Joint x → Together a b (joint_number x.0 x.1)
   joint_together x r = subst Joint (joint_states x r) r
 
-  -- the starts of a produced order, and where they lie
-  pub start_places : (p : ℕ) → p < produced_in a → (table_sizes + p < length a) × (table_sizes + p < length b)
-  start_places p h = (omega (arith, our_form.total), omega (arith, their_form.total, c.produced))
-
+  -- the starts of a produced order
   pub start_reached : (p : ℕ) → p < produced_in a → Joint (start_in a p, start_in b p)
   start_reached = reached_start (both (machine_in a) (machine_in b)) (sizes_in a)
 

@@ -3,17 +3,17 @@
 
 ghost use Rattle.std.specs.Prelude.{◌≤◌, length};
 ghost use Rattle.theory.specs.Listing.{table_listing};
-ghost use Rattle.table.specs.Form.{Formed};
 ghost use Rattle.text.specs.Text.{Printed};
 ghost use Rattle.listing.specs.Lines.{longest_listing};
 
 use lines::{count_line, start_lines, state_lines};
+use table::FormedTable;
 
 mod lines;
 
 // The listing of a table; how many bytes it has. They are the first ones of the text, and the others are kept.
-pub fn list(table: &[u8], text: &mut [u8]) -> usize
-    requires { Formed table.now × (longest_listing ≤ length text.old) }
+pub fn list(table: &FormedTable, text: &mut [u8]) -> usize
+    requires { longest_listing ≤ length text.old }
     ensures { Printed text.old (table_listing table.now) text.new result }
 {
     let starts = count_line(table, text, 0);

@@ -1,3 +1,3 @@
 -- What the proofs of this crate share.
 pub mod LookupLaws
-pub mod CodeLaws
+pub mod MoveLaws

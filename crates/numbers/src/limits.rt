@@ -27,6 +27,12 @@ pub const EQUAL_KIND: u8 = 4;
 
 pub const UNUSED_BYTE: u8 = 255;
 
+// The rules in force give at most so many arrows: two for each dependency.
+pub const MAX_ARROWS: usize = 32;
+
+// A set of columns as a mask has so many bits.
+pub const MASK_BITS: usize = 16;
+
 // In an order so much is added to a column that descends.
 pub const DESCENDING_UNIT: u8 = 128;
 

@@ -1,31 +1,30 @@
-// The refusal list: each number by its word. 0 stands for no refusal.
-pub const PASSED: u8 = 0;
+// The refusal list: each refusal by its word, with its number. The number 7 is never given, so no refusal has it.
+ghost use Rattle.std.specs.Prelude.{◌≡◌};
 
-pub const LENGTH: u8 = 1;
+#[derive(Clone, Copy, PartialEq, Eq, Debug)]
+pub enum Refusal {
+    Length = 1,
+    Size = 2,
+    Item = 3,
+    Column = 4,
+    Repeat = 5,
+    Twin = 6,
+    States = 8,
+    Space = 9,
+    Handle = 10,
+    Row = 11,
+    Mismatch = 12,
+    Answer = 13,
+    Count = 14,
+}
 
-pub const SIZE: u8 = 2;
+// A refusal's number.
+impl From<Refusal> for u8 {
+    ghost use Rattle.numbers.specs.Refusals.{number_of};
 
-pub const ITEM: u8 = 3;
+    ghost from_gives = { λ refusal n. n ≡ number_of refusal };
 
-pub const COLUMN: u8 = 4;
-
-pub const REPEAT: u8 = 5;
-
-pub const TWIN: u8 = 6;
-
-// Never given.
-pub const ORDERINGS: u8 = 7;
-
-pub const STATES: u8 = 8;
-
-pub const SPACE: u8 = 9;
-
-pub const HANDLE: u8 = 10;
-
-pub const ROW: u8 = 11;
-
-pub const MISMATCH: u8 = 12;
-
-pub const ANSWER: u8 = 13;
-
-pub const COUNT: u8 = 14;
+    fn from(refusal: Refusal) -> u8 {
+        refusal as u8
+    }
+}

@@ -2,7 +2,7 @@
 use Prim.Native.Nat.{ℕ, suc, ◌+◌, ◌*◌, ◌^◌, ◌≤◌, ◌<◌}
 use native.Mathlib.Nat.{suc-mul, mul-le-mul_right, eq-or-lt_of_le}
 use native.Mathlib.Omega.{arith}
-use mathlib.Core.Path.{◌≡◌, sym, ◌∙◌, ap, subst}
+use mathlib.Core.Path.{◌≡◌, sym, ◌∙◌, ap, ap₂, subst}
 use mathlib.Core.Bool.{false, true≢false}
 use mathlib.Core.Logic.{⊎_elim}
 use lib.Bits.{bit_or, or_lt}
@@ -33,14 +33,14 @@ next_opened bits sets p m words work e h from t l out =
     (from (bit_or m (2 ^ t)) (omega (arith, larger m t out)) (or_lt sets m (2 ^ t) h (pow-lt l)))
 
 -- set s, which is not in force, is looked at: x is what is open behind it, v the word with it and w the one without
-module _ (bits sets p m s r : ℕ) (work : Bytes) {k x v w : ℕ} (next : k ≡ bit_or m (2 ^ s)) (behind : x ≡ open_in sets work p k) (with_it : v ≡ cut_word bits sets (take held_part work) p k)
+module _ (bits sets p m s r : ℕ) (work : Bytes) {q k x v w : ℕ} (order : q ≡ p) (next : k ≡ bit_or m (2 ^ s)) (behind : x ≡ open_in sets work q k) (with_it : v ≡ cut_word bits sets (take held_part work) q k)
     (without : w ≡ cut_word bits sets (take held_part work) p m) (outside : in_mask m s ≡ false) (h : s < sets) (opened : NextOpened bits sets work p m)
     (g : Gathered bits sets (take held_part work) (next_open sets work p m) p m s r) where
   open_behind : x ≡ next_open sets work p m s
-  open_behind = behind ∙ ap (open_in sets work p) next
+  open_behind = behind ∙ ap₂ (open_in sets work) order next
 
   word_with : v ≡ cut_word bits sets (take held_part work) p (bit_or m (2 ^ s))
-  word_with = with_it ∙ ap (cut_word bits sets (take held_part work) p) next
+  word_with = with_it ∙ ap₂ (cut_word bits sets (take held_part work)) order next
 
   pub looked_same : v ≡ w → Gathered bits sets (take held_part work) (next_open sets work p m) p m (s + 1) (bit_or r x)
   looked_same e =

@@ -3,7 +3,6 @@ use Prim.Native.Nat.{ℕ, ◌*◌, ◌≤◌}
 use native.Mathlib.Nat.{le_refl}
 use native.Mathlib.Omega.{arith}
 use mathlib.Core.Path.{◌≡◌, sym, ◌∙◌, ap, subst}
-use mathlib.Core.Bool.{Bool}
 use mathlib.Core.Logic.{◌≢◌}
 use lib.ListN.{length, replicate}
 use borrow.Author.Tests.{eq-eqb, ne_eqb}
@@ -17,9 +16,11 @@ use Rattle.theory.specs.Counterexamples.{Named, Shows, query_refused, not_named,
 use Rattle.theory.proofs.Reflect.{says_eqb}
 use Rattle.theory.proofs.BitLaws.{low_bits}
 use Rattle.theory.proofs.QueryLaws.{SizesFit, query_sizes_lem, column_count_lem, produced_count_lem, order_count_lem, set_count_lem}
-use Rattle.counterexample.specs.Answers.{found_answer, ListedFound}
-use Rattle.counterexample.specs.declared.Found.{Found}
-use Rattle.counterexample.specs.declared.Found.TheVariants as found
+use Rattle.std.proofs.Common.{Bool, true, false, Result, Ok, Err}
+use Rattle.counterexample.specs.Answers.{found_answer}
+use Rattle.numbers.specs.declared.refusals.Refusal.{Refusal}
+use Rattle.numbers.specs.Refusals.{number_of}
+use Rattle.numbers.proofs.RefusalLaws.{refused}
 use Rattle.text.specs.Text.{Printed}
 use Rattle.order_counterexample.specs.Evidence.{none_line, rows_text, answer_text, large_line, Small, Told, ToldOf}
 
@@ -36,7 +37,7 @@ pub refusal_text : (n : ℕ) (a : Answer) (rows : Bytes) → a.refusal ≢ passe
 refusal_text n a rows h = rw (ne_eqb a.refusal passed h)
 
 -- a pair is found in a query whose sizes are within their limits
-pub rows_sizes : (query : Bytes) {p s o : ℕ} {room rows : Bytes} (r : Found) → Shows query p s o room (found_answer r) rows → r ≡ found.TwoRows → SizesFit query
+pub rows_sizes : (query : Bytes) {p s o : ℕ} {room rows : Bytes} (r : Result Bool Refusal) → Shows query p s o room (found_answer r) rows → r ≡ Ok true → SizesFit query
 rows_sizes query r shown e = query_sizes_lem query (answer_checked shown (ap (λ f. (found_answer f).refusal) e))
 
 -- the numbers of a query are bytes
@@ -51,8 +52,8 @@ named_small query {p} {s} {o} e n =
 
 module _ {before after : Bytes} {count : ℕ} where
   -- what was found
-  module _ (query : Bytes) {p s o : ℕ} (room : Bytes) {rows : Bytes} (r : Found) (enough : 2 * max_columns ≤ length room) (shown : Shows query p s o room (found_answer r) rows) where
-    told_found : (f : Found) → r ≡ f → Printed before (answer_text (read_query query).columns (found_answer f) rows) after count → Told query p s o before after count
+  module _ (query : Bytes) {p s o : ℕ} (room : Bytes) {rows : Bytes} (r : Result Bool Refusal) (enough : 2 * max_columns ≤ length room) (shown : Shows query p s o room (found_answer r) rows) where
+    told_found : (f : Result Bool Refusal) → r ≡ f → Printed before (answer_text (read_query query).columns (found_answer f) rows) after count → Told query p s o before after count
     told_found f e t =
         record {
           room = room;
@@ -63,14 +64,14 @@ module _ {before after : Bytes} {count : ℕ} where
           text = t;
         }
 
-    pub told_rows : (n : ℕ) → n ≡ column_count query → r ≡ found.TwoRows → Printed before (rows_text n rows) after count → Told query p s o before after count
-    told_rows n k e t = told_found found.TwoRows e (subst (λ m. Printed before (rows_text m rows) after count) (k ∙ sym (column_count_lem query)) t)
+    pub told_rows : (n : ℕ) → n ≡ column_count query → r ≡ Ok true → Printed before (rows_text n rows) after count → Told query p s o before after count
+    told_rows n k e t = told_found (Ok true) e (subst (λ m. Printed before (rows_text m rows) after count) (k ∙ sym (column_count_lem query)) t)
 
-    pub told_none : r ≡ found.None → Printed before none_line after count → Told query p s o before after count
-    told_none e t = told_found found.None e t
+    pub told_none : r ≡ Ok false → Printed before none_line after count → Told query p s o before after count
+    told_none e t = told_found (Ok false) e t
 
-    pub told_refusal : (n : ℕ) → r ≡ found.Refused n → ListedFound r → Printed before (refused_line n) after count → Told query p s o before after count
-    told_refusal n e l t = told_found (found.Refused n) e (rw (refusal_text (read_query query).columns (refuse n) rows (subst ListedFound e l)) t)
+    pub told_refusal : (n : Refusal) → r ≡ Err n → Printed before (refused_line (number_of n)) after count → Told query p s o before after count
+    told_refusal n e t = told_found (Err n) e (rw (refusal_text (read_query query).columns (refuse (number_of n)) rows (refused n)) t)
 
   -- the query's own refusal
   pub told_refused : (query : Bytes) (p s o : ℕ) (room : Bytes) → 2 * max_columns ≤ length room → query_refusal query ≢ passed → Printed before (refused_line (query_refusal query)) after count

@@ -12,13 +12,12 @@ ghost use Rattle.text.specs.Text.{Wrote, Printed};
 ghost use Rattle.refusal_line.specs.Refusal.{longest_refusal};
 ghost use Rattle.order_counterexample.specs.Evidence.{longest_rows, none_line, row_line, rows_text, large_line, Small, Told, EvidencePrinted};
 
-use counterexample::{Found, find};
-use decimal::{LARGE_NUMBER, Word};
+use counterexample::find;
+use decimal::LARGE_NUMBER;
 use files::{is_given, read_argument};
 use handles::{OrderHandle, SetChoice};
-use input::Input;
 use numbers::limits::QUERY_FRONT;
-use numbers::refusals;
+use numbers::refusals::Refusal;
 use refusal_line::refused;
 use std::io::Write;
 use std::rt::{Env, Files};
@@ -77,11 +76,11 @@ fn large(query: &[u8], text: &mut [u8]) -> usize
     requires { longest_refusal ≤ length text.old }
     ensures { Printed text.old (large_line query.now) text.new result }
 {
-    let refusal = query_check::check(query);
-    if refusal != refusals::PASSED {
-        return refused(refusal, text);
-    }
-    refused(refusals::HANDLE, text)
+    let refusal = match query_check::check(query) {
+        Ok(_) => Refusal::Handle,
+        Err(refusal) => refusal,
+    };
+    refused(u8::from(refusal), text)
 }
 
 // What is answered to a query and three bytes.
@@ -97,9 +96,9 @@ fn evidence(query: &[u8], produced: u8, sets: u8, order: u8, text: &mut [u8]) ->
         OrderHandle(order),
         &mut rows,
     ) {
-        Found::TwoRows => two_rows(&rows, query_sizes::columns(query) as usize, text),
-        Found::None => none(text),
-        Found::Refused(n) => refused(n, text),
+        Ok(true) => two_rows(&rows, query_sizes::columns(query) as usize, text),
+        Ok(false) => none(text),
+        Err(refusal) => refused(u8::from(refusal), text),
     }
 }
 
@@ -131,8 +130,7 @@ fn answer_file<R: Env + Files, O: Write, E: Write>(
     order: u16,
 ) {
     let mut query = [0u8; QUERY_FRONT];
-    let input = read_argument(rt, errors, 1, &mut query);
-    let Input::Front(n) = input else {
+    let Ok(n) = read_argument(rt, errors, 1, &mut query) else {
         return;
     };
     if !print(output, &query[..n], produced, sets, order) {
@@ -141,13 +139,13 @@ fn answer_file<R: Env + Files, O: Write, E: Write>(
 }
 
 // The number that an argument is. That it is none is said on standard error.
-fn read_number<R: Env, W: Write>(rt: &R, errors: &mut W, i: usize) -> Word {
+fn read_number<R: Env, W: Write>(rt: &R, errors: &mut W, i: usize) -> Option<u16> {
     let mut word = [0u8; LONGEST_WORD];
     let number = match rt.arg(i, &mut word) {
         Ok(length) => decimal::read(&word[..length]),
-        Err(_) => Word::Other,
+        Err(_) => None,
     };
-    if let Word::Other = number {
+    if number.is_none() {
         let _ = errors.write_all(b"PRODUCED, SETS and ORDER must be decimal numbers\n");
     }
     number
@@ -160,16 +158,13 @@ fn main(rt: HostRuntime) {
         let _ = errors.write_all(b"usage: order_counterexample QUERY PRODUCED SETS ORDER\n");
         return;
     }
-    let first = read_number(&rt, &mut errors, 2);
-    let Word::Number(produced) = first else {
+    let Some(produced) = read_number(&rt, &mut errors, 2) else {
         return;
     };
-    let second = read_number(&rt, &mut errors, 3);
-    let Word::Number(sets) = second else {
+    let Some(sets) = read_number(&rt, &mut errors, 3) else {
         return;
     };
-    let third = read_number(&rt, &mut errors, 4);
-    let Word::Number(order) = third else {
+    let Some(order) = read_number(&rt, &mut errors, 4) else {
         return;
     };
     answer_file(&rt, &mut rt.stdout(), &mut errors, produced, sets, order);

@@ -8,18 +8,18 @@ ghost use Rattle.std.specs.Prelude.{◌≤◌, length};
 ghost use Rattle.listing.specs.Lines.{longest_listing};
 ghost use Rattle.order_listing.specs.Lists.{Lists};
 
-use input::{Input, read_front};
+use input::read_front;
 use numbers::limits::{LONGEST_LISTING, QUERY_FRONT, SCRATCH_LENGTH};
 use std::io::Write;
 
-// The listing of an input, of which its first 256 bytes are given; how many bytes of the text it takes.
+// The listing of an input, of which its first 256 bytes are given; how many bytes of the text it takes. There is room for
+// every listing, so the 9 of a short buffer never comes.
 fn answer(front: &[u8], text: &mut [u8]) -> usize
     requires { longest_listing ≤ length text.old }
     ensures { Lists front.now text.new result }
 {
     let mut scratch = [0u8; SCRATCH_LENGTH];
-    let listed = query_listing::list(front, &mut scratch, text);
-    listed.length
+    query_listing::list(front, &mut scratch, text).unwrap()
 }
 
 // Prints the listing, and says whether all of it was written.
@@ -33,8 +33,7 @@ fn print<W: Write>(output: &mut W, front: &[u8]) -> bool {
 fn main(rt: HostRuntime) {
     let mut errors = rt.stderr();
     let mut buffer = [0u8; QUERY_FRONT];
-    let input = read_front(&mut rt.stdin(), &mut buffer);
-    let Input::Front(n) = input else {
+    let Ok(n) = read_front(&mut rt.stdin(), &mut buffer) else {
         let _ = errors.write_all(b"cannot read the query\n");
         return;
     };

@@ -1,5 +1,5 @@
 -- The numbers that the exported functions return.
-use Rattle.std.specs.Prelude.{ℕ, ◌+◌, ◌*◌, ◌≡◌, length}
+use Rattle.std.specs.Prelude.{ℕ, ◌≡◌, length}
 use Rattle.theory.specs.Query.{Bytes}
 use Rattle.theory.specs.Build.{Outcome, refused, built}
 use Rattle.theory.specs.Listing.{listing}
@@ -7,7 +7,7 @@ use Rattle.query_listing.specs.Listed.{listed_answer, list_refusal}
 use Rattle.theory.specs.Counterexamples.{Shows}
 use Rattle.theory.specs.Steps.{Continued, pair_settled, as_build}
 use Rattle.theory.specs.Table.{Answer}
-use Rattle.answer_codes.specs.Codes.{refusal_unit, answer_code, refused_code}
+use Rattle.answer_codes.specs.Codes.{answer_code, refused_code}
 
 -- A build's: the table's length, or the refusal.
 abbrev pub build_code : Outcome → ℕ
@@ -21,7 +21,7 @@ continue_code (as_build o) = build_code o
 
 -- A listing's: its length, or the refusal.
 abbrev pub list_code : Bytes → ℕ → ℕ → ℕ
-list_code query scratch text = let a = listed_answer (listing query) (list_refusal query scratch text) in a.refusal * refusal_unit + a.length
+list_code query scratch text = answer_code (listed_answer (listing query) (list_refusal query scratch text))
 
 -- A search for two rows: the answer as a number, with the buffer afterwards. It is 1 where a pair was written and 0 for none.
 pub record ShownCode (query : Bytes) (produced sets order : ℕ) (rows after : Bytes) (code : ℕ) : Type 0 where

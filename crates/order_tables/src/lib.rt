@@ -8,8 +8,9 @@ ghost use Rattle.theory.specs.Table.{table_refusal, enter, take_in, ask, word};
 ghost use Rattle.theory.specs.Build.{outcome, output_after, scratch_after};
 ghost use Rattle.theory.specs.Verification.{verify_refusal};
 ghost use Rattle.theory.specs.Steps.{begin_refusal, begun_scratch, continued, continued_output, continued_scratch};
+ghost use Rattle.numbers.specs.Refusals.{answer_in};
+ghost use Rattle.steps.specs.Continued.{step_answer};
 ghost use Rattle.answer_codes.specs.Codes.{answer_code, refused_code};
-ghost use Rattle.counterexample.specs.Answers.{found_answer};
 ghost use Rattle.theory.specs.Listing.{listing};
 ghost use Rattle.query_items.specs.Items.{order_item_code, dependency_item_code};
 ghost use Rattle.read_codes.specs.Codes.{row_code};
@@ -17,9 +18,9 @@ ghost use Rattle.replay.specs.Replay.{lookups_after, Modelled};
 ghost use Rattle.query_listing.specs.Listed.{list_refusal, text_after};
 ghost use Rattle.order_tables.specs.Codes.{build_code, continue_code, list_code, ShownCode};
 
-use answer_codes::{coded, refused};
-use counterexample::Found;
+use answer_codes::{answered, checked};
 use handles::{OrderHandle, SetChoice, SetHandle, StateNumber};
+use numbers::refusals::Refusal;
 
 // Build a query's table: its length.
 #[unsafe(no_mangle)]
@@ -28,8 +29,7 @@ pub extern "C" fn order_table_build(query: &[u8], scratch: &mut [u8], output: &m
     ensures output_after { output.new ≡ output_after query.now (length scratch.old) output.old }
     ensures scratch_after { scratch.new ≡ scratch_after query.now scratch.old }
 {
-    let built = builder::build(query, scratch, output);
-    coded(built.refusal, built.length)
+    answered(builder::build(query, scratch, output))
 }
 
 // Begin a build that is continued by calls.
@@ -38,8 +38,18 @@ pub extern "C" fn order_table_begin(query: &[u8], scratch: &mut [u8]) -> u32
     ensures value { result ≡ refused_code (begin_refusal query.now (length scratch.old)) }
     ensures scratch_after { scratch.new ≡ begun_scratch query.now scratch.old }
 {
-    let refusal = steps::begin(query, scratch);
-    refused(refusal)
+    checked(steps::begin(query, scratch))
+}
+
+// What a continuing call answers as one value: 0 where a pair was settled.
+fn continued_value(answer: Result<Option<usize>, Refusal>) -> Result<usize, Refusal>
+    ensures { answer_in result ≡ step_answer answer }
+{
+    match answer {
+        Ok(None) => Ok(0),
+        Ok(Some(length)) => Ok(length),
+        Err(refusal) => Err(refusal),
+    }
 }
 
 // Continue it: 0 where a pair was settled, the table's length where the build is done.
@@ -49,8 +59,7 @@ pub extern "C" fn order_table_continue(query: &[u8], scratch: &mut [u8], output:
     ensures output_after { output.new ≡ continued_output query.now scratch.old output.old }
     ensures scratch_after { scratch.new ≡ continued_scratch query.now scratch.old }
 {
-    let step = steps::go_on(query, scratch, output);
-    coded(step.refusal, step.length)
+    answered(continued_value(steps::go_on(query, scratch, output)))
 }
 
 // Build a query's table and answer a list of lookups on it in place, two bytes for each: the table's length.
@@ -67,8 +76,7 @@ pub extern "C" fn order_table_replay(
     ensures lookups_after { lookups.new ≡ lookups_after (outcome query.now (length scratch.old) (length output.old)) lookups.old }
     ensures modelled { Modelled query.now (length scratch.old) (length output.old) lookups.old lookups.new }
 {
-    let replayed = replay::replay(query, scratch, output, lookups);
-    coded(replayed.refusal, replayed.length)
+    answered(replay::replay(query, scratch, output, lookups))
 }
 
 // List a query: the listing's length.
@@ -78,8 +86,7 @@ pub extern "C" fn order_table_list(query: &[u8], scratch: &mut [u8], text: &mut 
     ensures text_after { text.new ≡ text_after (listing query.now) (list_refusal query.now (length scratch.old) (length text.old)) text.old }
     ensures scratch_after { scratch.new ≡ scratch_after query.now scratch.old }
 {
-    let listed = query_listing::list(query, scratch, text);
-    coded(listed.refusal, listed.length)
+    answered(query_listing::list(query, scratch, text))
 }
 
 // The table check.
@@ -87,7 +94,7 @@ pub extern "C" fn order_table_list(query: &[u8], scratch: &mut [u8], text: &mut 
 pub extern "C" fn order_table_check(table: &[u8]) -> u32
     ensures { result ≡ refused_code (table_refusal table.now) }
 {
-    refused(table::check(table))
+    checked(table::check(table))
 }
 
 // Verify a supplier's table against a query.
@@ -96,7 +103,7 @@ pub extern "C" fn order_table_verify(query: &[u8], table: &[u8], scratch: &mut [
     ensures value { result ≡ refused_code (verify_refusal query.now table.now (length scratch.old)) }
     ensures scratch_after { scratch.new ≡ scratch_after query.now scratch.old }
 {
-    refused(verify::verify(query, table, scratch))
+    checked(verify::verify(query, table, scratch))
 }
 
 // Enter by a produced order: the state.
@@ -139,17 +146,6 @@ pub extern "C" fn order_table_row(table: &[u8], state: u8) -> u32
     read_codes::row(table, StateNumber(state))
 }
 
-// A search for two rows: 1 where they were written, 0 where there are none, or the refusal.
-fn found(answer: Found) -> u32
-    ensures { result ≡ answer_code (found_answer answer) }
-{
-    match answer {
-        Found::TwoRows => 1,
-        Found::None => 0,
-        Found::Refused(n) => refused(n),
-    }
-}
-
 // Show why a sort is needed: 1 where two rows that break the order were written, 0 where there are none.
 #[unsafe(no_mangle)]
 pub extern "C" fn order_query_counterexample(
@@ -161,13 +157,14 @@ pub extern "C" fn order_query_counterexample(
 ) -> u32
     ensures { ShownCode query.now produced sets order rows.old rows.new result }
 {
-    found(counterexample::find(
+    let found = counterexample::find(
         query,
         OrderHandle(produced),
         SetChoice(sets),
         OrderHandle(order),
         rows,
-    ))
+    );
+    answered(found.map(usize::from))
 }
 
 // Checks 1 to 6 of a query.
@@ -175,7 +172,7 @@ pub extern "C" fn order_query_counterexample(
 pub extern "C" fn order_query_check(query: &[u8]) -> u32
     ensures { result ≡ refused_code (query_refusal query.now) }
 {
-    refused(query_check::check(query))
+    checked(query_check::check(query))
 }
 
 // Interesting order i of whatever bytes: the query's checks 1 to 6, then 10, then the order.
@@ -183,7 +180,7 @@ pub extern "C" fn order_query_check(query: &[u8]) -> u32
 pub extern "C" fn order_query_order(query: &[u8], i: u8) -> u64
     ensures { result ≡ order_item_code query.now i }
 {
-    query_items::order(query, OrderHandle(i))
+    query_items::coded(query_items::order(query, OrderHandle(i)))
 }
 
 // Dependency i of whatever bytes: the query's checks 1 to 6, then 10, then the dependency.
@@ -191,5 +188,5 @@ pub extern "C" fn order_query_order(query: &[u8], i: u8) -> u64
 pub extern "C" fn order_query_dependency(query: &[u8], i: u8) -> u64
     ensures { result ≡ dependency_item_code query.now i }
 {
-    query_items::dependency(query, i)
+    query_items::coded(query_items::dependency(query, i))
 }

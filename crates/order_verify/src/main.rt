@@ -8,33 +8,32 @@
 ghost use Rattle.std.specs.Prelude.{◌≤◌, length};
 ghost use Rattle.text.specs.Text.{Printed};
 ghost use Rattle.refusal_line.specs.Refusal.{longest_refusal};
+ghost use Rattle.numbers.specs.Refusals.{refusal_in};
 ghost use Rattle.order_verify.specs.Verdict.{accepted_line, verdict_line, VerdictPrinted};
 
 use files::{is_given, read_argument};
-use input::Input;
 use numbers::limits::{LONGEST_REFUSAL, QUERY_FRONT, SCRATCH_LENGTH, TABLE_FRONT};
-use numbers::refusals::PASSED;
+use numbers::refusals::Refusal;
 use std::io::Write;
+use text::word;
 
 // The line of an accepted table; how many bytes of the text it takes.
 fn accepted(text: &mut [u8]) -> usize
     requires { longest_refusal ≤ length text.old }
     ensures { Printed text.old accepted_line text.new result }
 {
-    let line = b"accepted\n";
-    byte_rows::copy(text, 0, line);
-    line.len()
+    word(text, 0, b"accepted\n")
 }
 
 // The line of an outcome.
-fn verdict(refusal: u8, text: &mut [u8]) -> usize
+fn verdict(outcome: Result<(), Refusal>, text: &mut [u8]) -> usize
     requires { longest_refusal ≤ length text.old }
-    ensures { Printed text.old (verdict_line refusal) text.new result }
+    ensures { Printed text.old (verdict_line (refusal_in outcome)) text.new result }
 {
-    if refusal == PASSED {
-        return accepted(text);
+    match outcome {
+        Ok(()) => accepted(text),
+        Err(refusal) => refusal_line::refused(u8::from(refusal), text),
     }
-    refusal_line::refused(refusal, text)
 }
 
 // The line of a trial's outcome, where the first 256 bytes of the query and the first 1,293 of the table are given.
@@ -43,8 +42,7 @@ fn answer(query: &[u8], table: &[u8], text: &mut [u8]) -> usize
     ensures { VerdictPrinted query.now table.now text.old text.new result }
 {
     let mut scratch = [0u8; SCRATCH_LENGTH];
-    let refusal = verify::verify(query, table, &mut scratch);
-    verdict(refusal, text)
+    verdict(verify::verify(query, table, &mut scratch), text)
 }
 
 // Prints the outcome, and says whether all of it was written.
@@ -62,13 +60,11 @@ fn main(rt: HostRuntime) {
         return;
     }
     let mut query = [0u8; QUERY_FRONT];
-    let first = read_argument(&rt, &mut errors, 1, &mut query);
-    let Input::Front(m) = first else {
+    let Ok(m) = read_argument(&rt, &mut errors, 1, &mut query) else {
         return;
     };
     let mut table = [0u8; TABLE_FRONT];
-    let second = read_argument(&rt, &mut errors, 2, &mut table);
-    let Input::Front(n) = second else {
+    let Ok(n) = read_argument(&rt, &mut errors, 2, &mut table) else {
         return;
     };
     if !print(&mut rt.stdout(), &query[..m], &table[..n]) {

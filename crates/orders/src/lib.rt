@@ -1,13 +1,14 @@
 // Orders and dependencies by value. Every function takes any value: a `len` above 4 reads as 4.
 #![tactic(auto)]
 
-ghost use Rattle.std.specs.Prelude.{◌≡◌, ◌≤◌, min, length, take, get_or};
+ghost use Rattle.std.specs.Prelude.{◌≡◌, ◌≤◌, length, take, get_or};
 ghost use Rattle.theory.specs.Orders as theory;
 ghost use Rattle.orders.specs.Orders.{order_of, OrderIs};
 
 use numbers::limits;
 
-// An order, most significant entry first: `len` entries, each a column with a direction, and behind them some that say nothing.
+// An order, most significant entry first: `len` entries, each a column with a direction, and behind them some that say nothing. It takes no memory from a heap
+// and is copied.
 #[derive(Clone, Copy)]
 pub struct Order {
     pub entries: [u8; 4],
@@ -37,28 +38,6 @@ pub struct Dependency {
     pub rule: Rule,
 }
 
-// The smaller of two numbers.
-pub fn least(a: usize, b: usize) -> usize
-    ensures { result ≡ min a b }
-{
-    if a < b { a } else { b }
-}
-
-// The number of entries.
-pub fn length(o: Order) -> usize
-    ensures { (result ≡ length (order_of o)) × (result ≤ 4) }
-{
-    least(o.len, 4)
-}
-
-// Entry i; 0 past the end.
-pub fn entry(o: Order, i: usize) -> u8
-    ensures { result ≡ get_or (order_of o) i 0 }
-{
-    let entries = o.entries;
-    if i < length(o) { entries[i] } else { 0 }
-}
-
 // Whether an entry descends.
 pub fn descends(e: u8) -> bool
     ensures { result ≡ theory.descends e }
@@ -77,28 +56,57 @@ pub fn column_of(e: u8) -> u8
     }
 }
 
-// The column of entry i; 0 past the end.
-pub fn column(o: Order, i: usize) -> u8
-    ensures { result ≡ theory.column (get_or (order_of o) i 0) }
-{
-    column_of(entry(o, i))
-}
-
-// The columns of an order's entries.
-pub fn columns(o: Order) -> Order
-    ensures { OrderIs result (theory.columns (order_of o)) }
-{
-    Order {
-        entries: [column(o, 0), column(o, 1), column(o, 2), column(o, 3)],
-        len: length(o),
+impl Order {
+    // The entries, as many as there are.
+    pub fn entries(&self) -> &[u8]
+        ensures { result.now ≡ order_of self.now }
+    {
+        &self.entries[..self.length()]
     }
-}
 
-// The first n entries.
-pub fn front(o: Order, n: usize) -> Order
-    ensures { OrderIs result (take n (order_of o)) }
-{
-    let entries = o.entries;
-    let len = least(n, length(o));
-    Order { entries, len }
+    // The number of entries.
+    pub fn length(self) -> usize
+        ensures { (result ≡ length (order_of self)) × (result ≤ 4) }
+    {
+        self.len.min(4)
+    }
+
+    // Entry i; 0 past the end.
+    pub fn entry(self, i: usize) -> u8
+        ensures { result ≡ get_or (order_of self) i 0 }
+    {
+        let entries = self.entries;
+        if i < self.length() { entries[i] } else { 0 }
+    }
+
+    // The column of entry i; 0 past the end.
+    pub fn column(self, i: usize) -> u8
+        ensures { result ≡ theory.column (get_or (order_of self) i 0) }
+    {
+        column_of(self.entry(i))
+    }
+
+    // The columns of an order's entries.
+    pub fn columns(self) -> Order
+        ensures { OrderIs result (theory.columns (order_of self)) }
+    {
+        Order {
+            entries: [
+                self.column(0),
+                self.column(1),
+                self.column(2),
+                self.column(3),
+            ],
+            len: self.length(),
+        }
+    }
+
+    // The first n entries.
+    pub fn front(self, n: usize) -> Order
+        ensures { OrderIs result (take n (order_of self)) }
+    {
+        let entries = self.entries;
+        let len = n.min(self.length());
+        Order { entries, len }
+    }
 }

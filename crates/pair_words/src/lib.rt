@@ -3,7 +3,7 @@
 #![tactic(auto)]
 
 ghost use Rattle.std.specs.Prelude.{◌≡◌, [], ◌∷◌, ◌+◌, ◌*◌, ◌/◌, ◌%◌, ◌^◌, ◌≤◌, ◌<◌, length};
-ghost use Rattle.theory.specs.Limits.{max_produced, max_sets};
+ghost use Rattle.theory.specs.Limits.{max_produced};
 ghost use Rattle.theory.specs.Scratch.{pair_at, word_at, held_part};
 ghost use Rattle.theory.specs.Placed.{placed};
 
@@ -11,37 +11,30 @@ use byte_rows::word;
 use handles::{OrderHandle, SetChoice};
 use numbers::limits::HELD_WIDTH;
 use numbers::scratch::WORDS_PART;
-
-// How many choices there are.
-pub fn choices(sets: usize) -> usize
-    requires { sets ≤ max_sets }
-    ensures { (result ≡ 2 ^ sets) × (result ≤ 256) }
-{
-    1usize << sets
-}
+use query_sizes::Sizes;
 
 // The number of the pair of produced order p and choice x: produced order by produced order, the choices counted upwards.
-pub fn pair(sets: usize, p: usize, x: usize) -> usize
-    requires { (p < max_produced) × (sets ≤ max_sets) × (x < 2 ^ sets) }
-    ensures { (result ≡ p * 2 ^ sets + x) × (result < 2048) }
+pub fn pair(sizes: Sizes, p: usize, x: usize) -> usize
+    requires { (p < max_produced) × (x < 2 ^ sizes.sets) }
+    ensures { (result ≡ p * 2 ^ sizes.sets + x) × (result < 2048) }
 {
-    p * choices(sets) + x
+    p * sizes.choices() + x
 }
 
 // Where the word of produced order p under choice x begins.
-fn place(sets: usize, p: usize, x: usize) -> usize
-    requires { (p < max_produced) × (sets ≤ max_sets) × (x < 2 ^ sets) }
-    ensures { (result ≡ pair_at sets p x) × (result + 2 ≤ held_part) }
+fn place(sizes: Sizes, p: usize, x: usize) -> usize
+    requires { (p < max_produced) × (x < 2 ^ sizes.sets) }
+    ensures { (result ≡ pair_at sizes.sets p x) × (result + 2 ≤ held_part) }
 {
-    WORDS_PART + HELD_WIDTH * pair(sets, p, x)
+    WORDS_PART + HELD_WIDTH * pair(sizes, p, x)
 }
 
 // The word of produced order p under choice x.
-pub fn read(work: &[u8], sets: usize, p: OrderHandle, x: SetChoice) -> u16
-    requires { (p.0 < max_produced) × (sets ≤ max_sets) × (x.0 < 2 ^ sets) × (held_part ≤ length work.now) }
-    ensures { result ≡ word_at sets work.now p.0 x.0 }
+pub fn read(work: &[u8], sizes: Sizes, p: OrderHandle, x: SetChoice) -> u16
+    requires { (p.0 < max_produced) × (x.0 < 2 ^ sizes.sets) × (held_part ≤ length work.now) }
+    ensures { result ≡ word_at sizes.sets work.now p.0 x.0 }
 {
-    let at = place(sets, p.0 as usize, x.0 as usize);
+    let at = place(sizes, p.0 as usize, x.0 as usize);
     word(work[at], work[at + 1])
 }
 
@@ -50,14 +43,13 @@ pub fn put(work: &mut [u8], at: usize, word: u16)
     requires { at + 2 ≤ length work.old }
     ensures { work.new ≡ placed at (word % 256 ∷ word / 256 ∷ []) work.old }
 {
-    work[at] = (word % 256) as u8;
-    work[at + 1] = (word / 256) as u8;
+    byte_rows::copy(work, at, &word.to_le_bytes());
 }
 
 // Write the word of produced order p under choice x. All other bytes keep their values.
-pub fn write(work: &mut [u8], sets: usize, p: OrderHandle, x: SetChoice, word: u16)
-    requires { (p.0 < max_produced) × (sets ≤ max_sets) × (x.0 < 2 ^ sets) × (held_part ≤ length work.old) }
-    ensures { work.new ≡ placed (pair_at sets p.0 x.0) (word % 256 ∷ word / 256 ∷ []) work.old }
+pub fn write(work: &mut [u8], sizes: Sizes, p: OrderHandle, x: SetChoice, word: u16)
+    requires { (p.0 < max_produced) × (x.0 < 2 ^ sizes.sets) × (held_part ≤ length work.old) }
+    ensures { work.new ≡ placed (pair_at sizes.sets p.0 x.0) (word % 256 ∷ word / 256 ∷ []) work.old }
 {
-    put(work, place(sets, p.0 as usize, x.0 as usize), word);
+    put(work, place(sizes, p.0 as usize, x.0 as usize), word);
 }

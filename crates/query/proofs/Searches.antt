@@ -1,30 +1,17 @@
--- Searches that end with a Boolean: for an element that fails a test, for an element among others, and for a repeat.
-use Prim.Native.Nat.{ℕ, zero, suc, ◌+◌, ◌<◌, ◌≤◌}
+-- Searches that end with a Boolean: for an element among others, and for a repeat.
+use Prim.Native.Nat.{ℕ, zero, suc, ◌<◌, ◌≤◌}
 use native.Mathlib.Nat.{not-suc-le-zero, le_of_suc-le-suc, zero-add}
-use native.Mathlib.Numerals.{add-one}
 use native.Mathlib.Omega.{arith}
 use mathlib.Core.Path.{◌≡◌, refl, sym, ◌∙◌, ap}
 use mathlib.Core.Bool.{Bool, true, false}
 use mathlib.Core.Logic.{⊎_elim}
 use mathlib.Core.List.Memᴰ
 use mathlib.Core.List.{List, [], ◌∷◌, map, Memᴰ}
-use lib.ListN.{length, take, drop, get_or, drop_of_length-le}
-use lib.Seq.{drop-cons}
-use Rattle.theory.specs.Tests.{Decides, Distinct, empty, also, every, member, repeats, up_from}
+use lib.ListN.{length, take, get_or}
+use Rattle.theory.specs.Tests.{Decides, Distinct, empty, also, member, repeats, up_from}
 use Rattle.theory.proofs.Reflect.{says_member, says_repeats, says_false, true_says, false_says, says_true}
 use Rattle.theory.proofs.ListLaws.{member_get_d, get_d_member, member_up_from, up_from_member}
 use Rattle.theory.proofs.RangeLaws.{entry_at, entry_count}
-
--- each element from i on passes: one step, and the two ends
-module _ (test : ℕ → Bool) (l : List ℕ) (i : ℕ) where
-  pub every_more : i < length l → test (get_or l i 0) ≡ true → every test (drop i l) ≡ every test (drop (i + 1) l)
-  every_more h e = rw (drop-cons l i 0 h, e, add-one)
-
-  pub every_fails : i < length l → test (get_or l i 0) ≡ false → every test (drop i l) ≡ false
-  every_fails h e = rw (drop-cons l i 0 h, e)
-
-  pub every_end : length l ≤ i → every test (drop i l) ≡ true
-  every_end h = rw (drop_of_length-le l {i = i} h)
 
 module _ {A : Type 0} (d : A) where
   -- no element is one of those before it

@@ -30,20 +30,6 @@ pub fn head(query: &[u8], i: u16) -> u8
     byte(query, limits::QUERY_SIZES + i as usize)
 }
 
-// How many of the four bytes from `at` on are there.
-fn there(len: usize, at: usize) -> usize
-    ensures { result ≡ min body_width (len - at) }
-{
-    if len <= at {
-        return 0;
-    }
-    if len - at < limits::BODY_WIDTH {
-        len - at
-    } else {
-        limits::BODY_WIDTH
-    }
-}
-
 // The four bytes of item i, as many of them as are there.
 pub fn body(query: &[u8], i: u16) -> Order
     ensures { OrderIs result (body_at query.now i) }
@@ -56,7 +42,7 @@ pub fn body(query: &[u8], i: u16) -> Order
             byte(query, at + 2),
             byte(query, at + 3),
         ],
-        len: there(query.len(), at),
+        len: query.len().saturating_sub(at).min(limits::BODY_WIDTH),
     }
 }
 
@@ -64,5 +50,5 @@ pub fn body(query: &[u8], i: u16) -> Order
 pub fn order_at(query: &[u8], i: u16) -> Order
     ensures { OrderIs result (order_at query.now i) }
 {
-    orders::front(body(query, i), head(query, i) as usize)
+    body(query, i).front(head(query, i) as usize)
 }

@@ -2,11 +2,13 @@
 #![tactic(auto)]
 
 pub mod bytes;
+mod checked;
 
 ghost use Rattle.std.specs.Prelude.{◌≡◌, ◌+◌};
 ghost use Rattle.theory.specs.Query.{order_count, order_at, rule_of, dependency_at};
 ghost use Rattle.orders.specs.Orders.{order_of, OrderIs, rule_is, dependency_is};
 
+pub use checked::CheckedQuery;
 use handles::OrderHandle;
 use numbers::limits;
 use orders::{Order, Rule};
@@ -22,14 +24,14 @@ pub fn order(query: &[u8], i: OrderHandle) -> Order
 fn rule(kind: u8, body: Order) -> Rule
     ensures { rule_is result ≡ rule_of kind (order_of body) }
 {
-    let a = orders::entry(body, 0);
-    let b = orders::entry(body, 1);
+    let a = body.entry(0);
+    let b = body.entry(1);
     if kind == limits::EQUAL_KIND {
         return Rule::Equal { a, b };
     }
-    let c = orders::entry(body, 2);
-    let d = orders::entry(body, 3);
-    let count = orders::length(orders::front(body, kind as usize)) as u8;
+    let c = body.entry(2);
+    let d = body.entry(3);
+    let count = body.front(kind as usize).length() as u8;
     Rule::Fix { count, a, b, c, d }
 }
 

@@ -7,17 +7,26 @@ use lib.Dec.{eqb, ltb}
 use lib.ListN.{length, take, length-take}
 use lib.Seq.{get_or-take}
 use borrow.Author.Tests.{ltb-false, le-ltb, ne_eqb}
-use Rattle.theory.specs.Limits.{query_front}
+use Rattle.theory.specs.Limits.{max_columns, max_produced, max_tested, max_sets, max_dependencies, query_sizes, item_width, query_front}
 use Rattle.theory.specs.Tests.{pick}
 use Rattle.theory.specs.Refusals.{passed, length_refused, size_refused}
 use Rattle.theory.specs.Query.{Bytes, byte_at, outside, sizes_refusal, query_refusal}
 use Rattle.theory.proofs.RefusalLaws.{pick_alike, neither, or_passed}
 use Rattle.theory.proofs.QueryLaws.{sizes_fit}
-use Rattle.query_check.specs.Sizes.{query_sizes_refusal}
+
+-- refusals 1, 2, 1 of a query, from its length and its sizes N, P, T, S, D as numbers
+abbrev query_sizes_refusal : (len n p t s d : ℕ) → ℕ
+query_sizes_refusal len n p t s d =
+    pick (ltb len query_sizes) length_refused
+    (pick (outside 1 max_columns n) size_refused
+    (pick (outside 1 max_produced p) size_refused
+    (pick (ltb max_tested t) size_refused
+    (pick (ltb max_sets s) size_refused
+    (pick (ltb max_dependencies d) size_refused
+    (pick (eqb len (query_sizes + item_width * (p + t + d))) passed length_refused))))))
 
 -- no sizes imply as many as 166 bytes: all numbers of bytes from there on are refused alike
 sizes_long : (x y n p t s d : ℕ) → 166 ≤ x → 166 ≤ y → query_sizes_refusal x n p t s d ≡ query_sizes_refusal y n p t s d
-unfolding query_sizes_refusal
 sizes_long x y n p t s d hx hy =
     rw (le-ltb x 5 (omega arith), le-ltb y 5 (omega arith))
     (pick_alike (outside 1 12 n) size_refused
@@ -35,7 +44,7 @@ module _ (b : Bytes) (h : 166 ≤ length b) where
   front_long = rw length-take (omega arith)
 
   sizes_front : sizes_refusal (take query_front b) ≡ sizes_refusal b
-  unfolding sizes_refusal query_sizes_refusal
+  unfolding sizes_refusal
   sizes_front =
       rw (get_or-take query_front b 0 0 (omega arith), get_or-take query_front b 1 0 (omega arith), get_or-take query_front b 2 0 (omega arith), get_or-take query_front b 3 0 (omega arith), get_or-take query_front b 4 0 (omega arith))
       (sizes_long (length (take query_front b)) (length b) (byte_at b 0) (byte_at b 1) (byte_at b 2) (byte_at b 3) (byte_at b 4) front_long h)

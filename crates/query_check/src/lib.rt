@@ -4,22 +4,20 @@
 mod sizes;
 mod twin;
 
-ghost use Rattle.std.specs.Prelude.{◌≡◌};
+ghost use Rattle.std.specs.Prelude.{◌≡◌, IfOk};
 ghost use Rattle.theory.specs.Query.{query_refusal};
+ghost use Rattle.numbers.specs.Refusals.{refusal_in};
 
-use numbers::refusals;
+use numbers::refusals::Refusal;
+use query::CheckedQuery;
 
-// The first of the checks 1 to 6 that refuses, by its number; 0 where none does.
-pub fn check(query: &[u8]) -> u8
-    ensures { result ≡ query_refusal query.now }
+// The query where the checks 1 to 6 pass; else the first that refuses.
+pub fn check(query: &[u8]) -> Result<CheckedQuery<'_>, Refusal>
+    ensures refusal { refusal_in result ≡ query_refusal query.now }
+    ensures bytes { IfOk result (λ checked. checked ≡ query.now) }
 {
-    let sizes = sizes::sizes_refusal(query);
-    if sizes != refusals::PASSED {
-        return sizes;
-    }
-    let items = item_check::items_refusal(query);
-    if items != refusals::PASSED {
-        return items;
-    }
-    twin::twin_refusal(query)
+    sizes::check_sizes(query)?;
+    item_check::check_items(query)?;
+    twin::check_twins(query)?;
+    Ok(CheckedQuery::new(query))
 }

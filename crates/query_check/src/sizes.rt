@@ -1,62 +1,51 @@
 // Refusals 1, 2, 1: fewer than five bytes; a size outside its limits; a total other than the sizes imply.
 ghost use Rattle.std.specs.Prelude.{◌≡◌, ◌+◌, ◌*◌};
-ghost use Rattle.theory.specs.Query.{outside, sizes_refusal};
+ghost use Rattle.theory.specs.Tests.{pick};
+ghost use Rattle.theory.specs.Refusals.{passed, size_refused};
+ghost use Rattle.theory.specs.Query.{item_count, outside, sizes_refusal};
 ghost use Rattle.theory.specs.Limits.{query_sizes, item_width};
-ghost use Rattle.query_check.specs.Sizes.{query_sizes_refusal};
+ghost use Rattle.numbers.specs.Refusals.{refusal_in};
 
-use numbers::{limits, refusals};
+use numbers::limits;
+use numbers::refusals::Refusal;
+use query::bytes;
 
-// Whether a size is outside its limits.
-fn outside(low: u8, high: u8, n: u8) -> bool
-    ensures { result ≡ outside low high n }
+// A size, which has to be within its limits.
+fn check_size(low: u8, high: u8, size: u8) -> Result<(), Refusal>
+    ensures { refusal_in result ≡ pick (outside low high size) size_refused passed }
 {
-    n < low || high < n
+    if (low..=high).contains(&size) {
+        Ok(())
+    } else {
+        Err(Refusal::Size)
+    }
 }
 
 // The total that the sizes imply: the five sizes, and five bytes for each item.
-fn implied(p: u8, t: u8, d: u8) -> usize
-    ensures { result ≡ query_sizes + item_width * (p + t + d) }
+fn implied(query: &[u8]) -> usize
+    ensures { result ≡ query_sizes + item_width * item_count query.now }
 {
-    limits::QUERY_SIZES + limits::ITEM_WIDTH * (p as usize + t as usize + d as usize)
+    limits::QUERY_SIZES + limits::ITEM_WIDTH * bytes::item_count(query) as usize
 }
 
-// The outcome, from the length and the sizes N, P, T, S, D.
-fn sized(len: usize, n: u8, p: u8, t: u8, s: u8, d: u8) -> u8
-    ensures { result ≡ query_sizes_refusal len n p t s d }
+// The length and the sizes N, P, T, S, D.
+pub fn check_sizes(query: &[u8]) -> Result<(), Refusal>
+    ensures { refusal_in result ≡ sizes_refusal query.now }
 {
-    if len < limits::QUERY_SIZES {
-        return refusals::LENGTH;
+    if query.len() < limits::QUERY_SIZES {
+        return Err(Refusal::Length);
     }
-    if outside(1, limits::MAX_COLUMNS, n) {
-        return refusals::SIZE;
+    check_size(1, limits::MAX_COLUMNS, query_sizes::columns(query))?;
+    check_size(1, limits::MAX_PRODUCED, query_sizes::produced(query))?;
+    check_size(0, limits::MAX_TESTED, query_sizes::tested(query))?;
+    check_size(0, limits::MAX_SETS, query_sizes::sets(query))?;
+    check_size(
+        0,
+        limits::MAX_DEPENDENCIES,
+        query_sizes::dependencies(query),
+    )?;
+    if query.len() != implied(query) {
+        return Err(Refusal::Length);
     }
-    if outside(1, limits::MAX_PRODUCED, p) {
-        return refusals::SIZE;
-    }
-    if limits::MAX_TESTED < t {
-        return refusals::SIZE;
-    }
-    if limits::MAX_SETS < s {
-        return refusals::SIZE;
-    }
-    if limits::MAX_DEPENDENCIES < d {
-        return refusals::SIZE;
-    }
-    if len == implied(p, t, d) {
-        refusals::PASSED
-    } else {
-        refusals::LENGTH
-    }
-}
-
-// The same of the query's bytes.
-pub fn sizes_refusal(query: &[u8]) -> u8
-    ensures { result ≡ sizes_refusal query.now }
-{
-    let n = query_sizes::columns(query);
-    let p = query_sizes::produced(query);
-    let t = query_sizes::tested(query);
-    let s = query_sizes::sets(query);
-    let d = query_sizes::dependencies(query);
-    sized(query.len(), n, p, t, s, d)
+    Ok(())
 }

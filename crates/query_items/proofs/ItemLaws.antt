@@ -22,17 +22,17 @@ use Rattle.query_items.specs.Items.{item_unit, item_code, item_answer, order_ite
 
 module _ (query : Bytes) (count i value : ℕ) where
   -- the query is refused, the item is not there, or it is
-  pub query_refuses : {n : ℕ} → n ≡ query_refusal query → (n ≡ passed → ⊥) → item_code (refuse n) ≡ item_code (item_answer query count i value)
+  pub query_refuses : {n : ℕ} → n ≡ query_refusal query → (n ≡ passed → ⊥) → refuse n ≡ item_answer query count i value
   unfolding item_answer
   query_refuses {n} e f = rw (← e, ne_eqb n passed f)
 
-  pub item_missing : passed ≡ query_refusal query → count ≤ i → item_code (refuse handle_refused) ≡ item_code (item_answer query count i value)
+  pub item_missing : passed ≡ query_refusal query → count ≤ i → refuse handle_refused ≡ item_answer query count i value
   unfolding item_answer
   item_missing e h = rw (← e, le-ltb i count h)
 
-  pub item_there : passed ≡ query_refusal query → i < count → value ≡ item_code (item_answer query count i value)
+  pub item_there : passed ≡ query_refusal query → i < count → grant value ≡ item_answer query count i value
   unfolding item_answer
-  item_there e h = rw (← e, lt-ltb i count h) (omega arith)
+  item_there e h = rw (← e, lt-ltb i count h)
 
   -- a value below the unit and its refusal are the remainder and the quotient
   pub item_read : (query_refusal query ≡ passed → i < count → value < item_unit) →

@@ -10,66 +10,62 @@ use borrow.Author.Tests.{ne_eqb}
 use Rattle.theory.specs.Limits.{scratch_length, longest_table}
 use Rattle.theory.specs.Refusals.{passed}
 use Rattle.theory.specs.Query.{Bytes, query_refusal}
+use Rattle.theory.specs.Table.{Answer, grant, refuse}
 use Rattle.theory.specs.Build.{Outcome, refused, built, outcome, written, output_after}
 use Rattle.theory.specs.Listing.{refused_line, table_listing, listed, listing}
 use Rattle.theory.proofs.DemandThree.{built_facts}
 use Rattle.theory.proofs.PlacedLaws.{placed_length}
+use Rattle.numbers.specs.declared.refusals.Refusal.{Refusal}
+use Rattle.numbers.specs.Refusals.{number_of}
+use Rattle.numbers.proofs.RefusalLaws.{refused as number_refused}
 use Rattle.table.specs.Form.{Formed}
 use Rattle.text.specs.Text.{Printed}
 use Rattle.query_listing.specs.Listed.{Listing}
 use Rattle.builder.specs.Built.{built_answer}
 use Rattle.builder.proofs.AnswerLaws.{granted, built_formed}
-use Rattle.builder.specs.declared.Built as answer
 
 -- the line of a refusal
-refused_line_lem : (o : Outcome) → (built_answer o).refusal ≢ passed → refused_line (built_answer o).refusal ≡ listed o
-refused_line_lem (refused n) h = refl
-refused_line_lem (built t) h = absurd (h refl)
+refused_line_lem : (e : Refusal) (o : Outcome) → refuse (number_of e) ≡ built_answer o → refused_line (number_of e) ≡ listed o
+refused_line_lem e (refused n) a = ap (λ (x : Answer). refused_line x.refusal) a
+refused_line_lem e (built t) a = absurd (number_refused e (ap (λ (x : Answer). x.refusal) a))
 
 -- the listing of a query that checks 1 to 6 refuse is its refusal's line
 pub unpassed_listing : (query : Bytes) → query_refusal query ≢ passed → refused_line (query_refusal query) ≡ listing query
 unfolding listing outcome
 unpassed_listing query h = rw (ne_eqb (query_refusal query) passed h, outcome)
 
--- A table as the listing takes it: in its form, and its listing is the query's.
-pub record Shown (query after : Bytes) (r : answer.Built) : Type 0 where
-  pub form : Formed (take r.length after)
-  pub fits : r.length ≤ length after
-  pub same : table_listing (take r.length after) ≡ listing query
+-- A table as the listing takes it, the first n bytes: in its form, and its listing is the query's.
+pub record Shown (query after : Bytes) (n : ℕ) : Type 0 where
+  pub form : Formed (take n after)
+  pub fits : n ≤ length after
+  pub same : table_listing (take n after) ≡ listing query
 
 -- A build with room for every table.
 abbrev room : Bytes
 room = replicate longest_table 0
 
-module _ (query work : Bytes) (w : length work ≡ scratch_length) {r : answer.Built} (a : r ≡ built_answer (outcome query (length work) (length room))) where
-  abbrev o : Outcome
-  o = outcome query scratch_length longest_table
-
-  answer_is : r ≡ built_answer o
-  answer_is = rw w at a
-
-  refusal_is : r.refusal ≡ (built_answer o).refusal
-  refusal_is = ap (λ (x : answer.Built). x.refusal) answer_is
-
+module _ (query work : Bytes) (w : length work ≡ scratch_length) where
   -- with a refusal, the listing is its line ..
-  pub refused_listing : r.refusal ≢ passed → refused_line r.refusal ≡ listing query
+  pub refused_listing : (e : Refusal) → refuse (number_of e) ≡ built_answer (outcome query (length work) (length room)) → refused_line (number_of e) ≡ listing query
   unfolding listing
-  refused_listing h = rw refusal_is (refused_line_lem o (λ z. h (refusal_is ∙ z)))
+  refused_listing e a = refused_line_lem e (outcome query scratch_length longest_table) (rw w at a)
 
   -- .. and with none it is that of the table
-  pub table_listing_lem : {after : Bytes} → after ≡ output_after query (length work) room → r.refusal ≡ passed → Shown query after r
+  pub table_listing_lem : {n : ℕ} {after : Bytes} → grant n ≡ built_answer (outcome query (length work) (length room)) → after ≡ output_after query (length work) room → Shown query after n
   unfolding listing output_after
-  table_listing_lem {after} f h = go (granted query scratch_length longest_table (sym refusal_is ∙ h))
+  table_listing_lem {n} {after} a f = go (granted query scratch_length longest_table (sym (ap (λ (x : Answer). x.refusal) answer)))
     where
-      go : (t : Bytes) × (o ≡ built t) → Shown query after r
+      answer : grant n ≡ built_answer (outcome query scratch_length longest_table)
+      answer = rw w at a
+
+      go : (t : Bytes) × (outcome query scratch_length longest_table ≡ built t) → Shown query after n
       go (t, e) =
-          let b = built_facts query scratch_length longest_table t e in
-          let x : r ≡ built_answer (built t) = answer_is ∙ ap built_answer e in
+          let long : n ≡ length t = ap (λ (x : Answer). x.value) (answer ∙ ap built_answer e) in
           let y : after ≡ t ++ drop (length t) room = (rw w at f) ∙ ap (λ p. written p room) e in
-          let d : take r.length after ≡ t = ap₂ take (ap (λ (x : answer.Built). x.length) x) y ∙ take_at t (drop (length t) room) (length t) refl in
+          let d : take n after ≡ t = ap₂ take long y ∙ take_at t (drop (length t) room) (length t) refl in
           record {
-            form = subst Formed (sym d) (built_formed b);
-            fits = rw (y, length-append) (omega (arith, ap (λ (x : answer.Built). x.length) x));
+            form = subst Formed (sym d) (built_formed (built_facts query scratch_length longest_table t e));
+            fits = rw (y, length-append) (omega (arith, long));
             same = ap table_listing d ∙ ap listed (sym e);
           }
 

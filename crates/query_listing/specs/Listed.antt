@@ -1,11 +1,13 @@
 -- What listing a query answers and leaves in the lent buffers.
-use Rattle.std.specs.Prelude.{ℕ, ◌≤◌, ◌≡◌, ◌&&◌, ◌++◌, eqb, ltb, length, take, drop}
+use Rattle.std.specs.Prelude.{ℕ, Result, ◌≤◌, ◌≡◌, ◌&&◌, ◌++◌, eqb, ltb, length, take, drop}
 use Rattle.theory.specs.Limits.{scratch_length}
 use Rattle.theory.specs.Tests.{pick}
 use Rattle.theory.specs.Refusals.{passed, space_refused}
 use Rattle.theory.specs.Query.{Bytes, query_refusal}
 use Rattle.theory.specs.Listing.{listing}
-use Rattle.query_listing.specs.declared.Listed.{Listed}
+use Rattle.theory.specs.Table.{Answer}
+use Rattle.numbers.specs.declared.refusals.Refusal.{Refusal}
+use Rattle.numbers.specs.Refusals.{answer_in}
 
 -- A text that is lent for a listing takes it whole, or the refusal is 9.
 abbrev pub text_refusal : Bytes → ℕ → ℕ
@@ -17,8 +19,8 @@ list_refusal query scratch textLength =
     pick (eqb (query_refusal query) passed && ltb scratch scratch_length) space_refused (text_refusal (listing query) textLength)
 
 -- The answer for a listing: the refusal, or 0; and the listing's length, which is 0 on refusal.
-abbrev pub listed_answer : Bytes → ℕ → Listed
-listed_answer l refusal = record { refusal = refusal; length = pick (eqb refusal passed) (length l) 0 }
+abbrev pub listed_answer : Bytes → ℕ → Answer
+listed_answer l refusal = record { refusal = refusal; value = pick (eqb refusal passed) (length l) 0 }
 
 -- The text keeps its bytes on refusal; otherwise its first bytes are the listing and the rest keep theirs.
 unfoldable pub text_after : Bytes → ℕ → Bytes → Bytes
@@ -31,6 +33,6 @@ pub record Listing (l memory : Bytes) (count : ℕ) : Type 0 where
   pub fits : count ≤ length memory
 
 -- A listing handed over into the text: the answer, and the text afterwards.
-pub record Handed (l before after : Bytes) (r : Listed) : Type 0 where
-  pub answer : r ≡ listed_answer l (text_refusal l (length before))
+pub record Handed (l before after : Bytes) (r : Result ℕ Refusal) : Type 0 where
+  pub answer : answer_in r ≡ listed_answer l (text_refusal l (length before))
   pub text : after ≡ text_after l (text_refusal l (length before)) before

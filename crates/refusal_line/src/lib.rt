@@ -8,7 +8,7 @@ ghost use Rattle.refusal_line.specs.Refusal.{longest_refusal};
 
 use text::{number, word};
 
-// The line of a refusal.
+// The line of a refusal, by its number: any number has a line.
 pub fn refused(n: u8, text: &mut [u8]) -> usize
     requires { longest_refusal ≤ length text.old }
     ensures { Printed text.old (refused_line n) text.new result }

@@ -7,9 +7,9 @@ use lib.ListN.{length, take, drop, length-append}
 use lib.Seq.{take-append_seam}
 use Rattle.theory.specs.Refusals.{passed}
 use Rattle.theory.specs.Query.{Bytes}
+use Rattle.theory.specs.Table.{Answer}
 use Rattle.theory.specs.Build.{Outcome, refused, built, outcome, written, output_after}
 use Rattle.theory.proofs.DemandThree.{demand_three}
-use Rattle.builder.specs.declared.Built.{Built}
 use Rattle.builder.specs.Built.{built_answer}
 use Rattle.builder.proofs.AnswerLaws.{granted}
 use Rattle.replay.specs.Replay.{replayed, lookups_after, Modelled}
@@ -22,8 +22,8 @@ kept (built t) lookups h = absurd (h refl)
 
 -- The table of an unrefused build is the output's first bytes.
 record TableFirst (o : Outcome) (output : Bytes) : Type 0 where
-  pub room : (built_answer o).length ≤ length (written o output)
-  pub replays : (lookups : Bytes) → replayed (take (built_answer o).length (written o output)) 0 lookups ≡ lookups_after o lookups
+  pub room : (built_answer o).value ≤ length (written o output)
+  pub replays : (lookups : Bytes) → replayed (take (built_answer o).value (written o output)) 0 lookups ≡ lookups_after o lookups
 
 table_first : {o : Outcome} (output : Bytes) → (t : Bytes) × (o ≡ built t) → TableFirst o output
 table_first output (t, e) =
@@ -41,7 +41,7 @@ modelled query scratch output before k =
     }
 
 -- What a caller of the builder knows of the table, from the answer r and the output afterwards.
-module _ (query : Bytes) (scratch : ℕ) (output : Bytes) {r : Built} (e : r ≡ built_answer (outcome query scratch (length output))) where
+module _ (query : Bytes) (scratch : ℕ) (output : Bytes) {r : Answer} (e : r ≡ built_answer (outcome query scratch (length output))) where
   pub lookups_kept : (lookups : Bytes) → r.refusal ≢ passed → lookups ≡ lookups_after (outcome query scratch (length output)) lookups
   lookups_kept lookups h = kept (outcome query scratch (length output)) lookups (rw e at h)
 
@@ -49,10 +49,10 @@ module _ (query : Bytes) (scratch : ℕ) (output : Bytes) {r : Built} (e : r ≡
     first : TableFirst (outcome query scratch (length output)) output
     first = table_first output (granted query scratch (length output) (rw e at h))
 
-    pub table_room : r.length ≤ length after
+    pub table_room : r.value ≤ length after
     unfolding output_after
     table_room = rw (e, w) first.room
 
-    pub lookups_replayed : (lookups : Bytes) → replayed (take r.length after) 0 lookups ≡ lookups_after (outcome query scratch (length output)) lookups
+    pub lookups_replayed : (lookups : Bytes) → replayed (take r.value after) 0 lookups ≡ lookups_after (outcome query scratch (length output)) lookups
     unfolding output_after
     lookups_replayed lookups = rw (e, w) (first.replays lookups)

@@ -1,19 +1,19 @@
--- What the code hands on from one lookup to the next.
-use Rattle.std.specs.Prelude.{ℕ, ◌+◌, ◌≡◌, get_or, set}
+-- A lookup as the code has it, and a lookup answered in its place.
+use Rattle.std.specs.Prelude.{ℕ, ◌+◌, get_or, set}
 use Rattle.theory.specs.Query.{Bytes}
-use Rattle.theory.specs.Table.{Answer}
-use Rattle.theory.specs.Lookups.{Lookup}
+use Rattle.theory.specs.Lookups as theory
 use Rattle.replay.specs.Replay.{lookup_of, answer_to}
-use Rattle.replay.specs.declared.Answered.{Answered}
+use Rattle.replay.specs.declared.Lookup.{Lookup}
+use Rattle.replay.specs.declared.Lookup.TheVariants.{Enter, Take, Ask}
 
--- The answer's two bytes, and the state after it.
-pub record Gives (a : Answer) (state : ℕ) (r : Answered) : Type 0 where
-  pub refusal_is : r.refusal ≡ a.refusal
-  pub value_is : r.value ≡ a.value
-  pub state_is : r.next.state.0 ≡ state
+-- The lookup that a value stands for.
+abbrev pub lookup_is : Lookup → theory.Lookup
+lookup_is (Enter p) = theory.entry p.0
+lookup_is (Take s) = theory.taking s.0
+lookup_is (Ask i) = theory.asking i.0
 
 -- The lookup at place i of a buffer, and the buffer with its answer's two bytes in its place.
-abbrev pub lookup_at : Bytes → ℕ → Lookup
+abbrev pub lookup_at : Bytes → ℕ → theory.Lookup
 lookup_at b i = lookup_of (get_or b i 0) (get_or b (i + 1) 0)
 
 abbrev pub answered_at : Bytes → ℕ → Bytes → ℕ → Bytes

@@ -1,10 +1,10 @@
-// Pairs as numbers: the word of a pair without the bits that do not count, the pair of a row, and a choice with one set more. While rows are numbered, row i is two bytes: a produced
-// order, and the number of a choice of sets in force, that give it. Every function requires what its callers have shown: none is an entry point.
+// Pairs of a produced order and the number of a choice of sets in force: the word of a pair without the bits that do not count, the pair of a row, and a pair under another choice.
+// While rows are numbered, row i is two bytes, a pair that gives it. Every function requires what its callers have shown: none is an entry point.
 #![tactic(auto)]
 
 ghost use Rattle.std.specs.Prelude.{◌≡◌, ◌+◌, ◌^◌, ◌≤◌, ◌<◌, length, take};
 ghost use Rattle.std.specs.Int.Bits.{bit_or};
-ghost use Rattle.theory.specs.Limits.{max_produced, max_tested, max_sets, max_states};
+ghost use Rattle.theory.specs.Limits.{max_produced, max_states};
 ghost use Rattle.theory.specs.Query.{byte_at};
 ghost use Rattle.theory.specs.Scratch.{held_part, work_length};
 ghost use Rattle.row_pairs.specs.RowPairs.{cut_word, row_place};
@@ -12,51 +12,60 @@ ghost use Rattle.row_pairs.specs.RowPairs.{cut_word, row_place};
 use handles::{OrderHandle, SetChoice};
 use numbers::limits::HELD_WIDTH;
 use numbers::scratch::HELD_PART;
+use query_sizes::Sizes;
 
-// So many bits make numbers below this one.
-fn power(bits: usize) -> usize
-    requires { bits ≤ max_produced + max_tested }
-    ensures { (result ≡ 2 ^ bits) × (0 < result) × (result ≤ 65536) }
-{
-    1usize << bits
+// A produced order, and a choice of sets in force.
+#[derive(Clone, Copy)]
+pub struct Pair {
+    pub order: usize,
+    pub choice: usize,
 }
 
-// The word of produced order p under choice x, without the bits that do not count.
-pub fn cut_word(work: &[u8], bits: usize, sets: usize, p: usize, x: usize) -> usize
-    requires { (bits ≤ max_produced + max_tested) × (p < max_produced) × (sets ≤ max_sets) × (x < 2 ^ sets) × (held_part ≤ length work.now) }
-    ensures { (result ≡ cut_word bits sets (take held_part work.now) p x) × (result < 65536) }
-{
-    pair_words::read(work, sets, OrderHandle(p as u8), SetChoice(x as u8)) as usize % power(bits)
+impl Pair {
+    // The pair of the same produced order and another choice.
+    pub fn under(self, choice: usize) -> Pair
+        ensures order { result.order ≡ self.order }
+        ensures choice { result.choice ≡ choice }
+    {
+        Pair {
+            order: self.order,
+            choice,
+        }
+    }
+
+    // The pair with set s in force too.
+    pub fn with_set(self, sizes: Sizes, s: usize) -> Pair
+        requires { (self.choice < 2 ^ sizes.sets) × (s < sizes.sets) }
+        ensures order { result.order ≡ self.order }
+        ensures choice { (result.choice ≡ bit_or self.choice (2 ^ s)) × (result.choice < 2 ^ sizes.sets) }
+    {
+        self.under(self.choice | (1usize << s))
+    }
 }
 
-// A byte as a number.
-pub fn byte(work: &[u8], at: usize) -> usize
-    requires { at < length work.now }
-    ensures { result ≡ byte_at work.now at }
+// The word of a pair, without the bits that do not count.
+pub fn cut_word(work: &[u8], sizes: Sizes, pair: Pair) -> usize
+    requires { (pair.order < max_produced) × (pair.choice < 2 ^ sizes.sets) × (held_part ≤ length work.now) }
+    ensures { (result ≡ cut_word (sizes.produced + sizes.tested) sizes.sets (take held_part work.now) pair.order pair.choice) × (result < 65536) }
 {
-    work[at] as usize
+    let word = pair_words::read(
+        work,
+        sizes,
+        OrderHandle(pair.order as u8),
+        SetChoice(pair.choice as u8),
+    );
+    word as usize % (1usize << sizes.orders())
 }
 
-// The produced order of row i's pair.
-pub fn row_order(work: &[u8], i: usize) -> usize
+// The pair of row i.
+pub fn row_pair(work: &[u8], i: usize) -> Pair
     requires { (i < max_states) × (work_length ≤ length work.now) }
-    ensures { result ≡ byte_at work.now (row_place i) }
+    ensures order { result.order ≡ byte_at work.now (row_place i) }
+    ensures choice { result.choice ≡ byte_at work.now (row_place i + 1) }
 {
-    byte(work, HELD_PART + i * HELD_WIDTH)
-}
-
-// Its choice.
-pub fn row_choice(work: &[u8], i: usize) -> usize
-    requires { (i < max_states) × (work_length ≤ length work.now) }
-    ensures { result ≡ byte_at work.now (row_place i + 1) }
-{
-    byte(work, HELD_PART + i * HELD_WIDTH + 1)
-}
-
-// The choice m with set s in force too.
-pub fn with_set(m: usize, s: usize, sets: usize) -> usize
-    requires { (m < 2 ^ sets) × (s < sets) × (sets ≤ max_sets) }
-    ensures { (result ≡ bit_or m (2 ^ s)) × (result < 2 ^ sets) }
-{
-    m | (1usize << s)
+    let at = HELD_PART + i * HELD_WIDTH;
+    Pair {
+        order: work[at] as usize,
+        choice: work[at + 1] as usize,
+    }
 }

@@ -1,5 +1,5 @@
 -- The closure test, entry by entry: entries passed over, an entry met or missed, and the end.
-use Prim.Native.Nat.{ℕ, zero, suc, ◌+◌, ◌-◌, ◌^◌, ◌<◌, ◌≤◌}
+use Prim.Native.Nat.{ℕ, zero, suc, ◌+◌, ◌-◌, ◌^◌, ◌<◌}
 use native.Mathlib.Numerals.{add-one}
 use native.Mathlib.Omega.{arith}
 use mathlib.Core.Path.{◌≡◌, refl, sym, ◌∙◌, ap, ap₂, subst, subst₂}
@@ -12,6 +12,7 @@ use lib.Dec.{eqb}
 use lib.IntN.{pos}
 use lib.ListN.{length, take, drop, get_or, drop_of_length-le}
 use lib.Seq.{take-suc, drop-cons}
+use Rattle.std.specs.Prelude.{Option, None, Some}
 use Rattle.theory.specs.Tests.{pick, Says, holds, fails, member, up_from, in_mask}
 use Rattle.theory.specs.Orders.{Order, descends, column, columns, Rule}
 use Rattle.theory.specs.Rows.{Counterexample}
@@ -22,13 +23,13 @@ use Rattle.theory.proofs.BitLaws.{raised_has, raised_keeps, raised_only}
 use Rattle.theory.proofs.RangeLaws.{map_below}
 use Rattle.theory.proofs.EntryLaws.{below_ascends}
 use Rattle.theory.proofs.SettledLaws.{settled_through, says_settled, says_alike}
-use Rattle.theory.proofs.StopLaws.{Past, past_none, past_more, past_both, past_front, past_met, first_descends, Stop, stop_at}
+use Rattle.theory.proofs.StopLaws.{Past, past_none, past_more, past_both, past_front, past_met, first_descends, Stop as Stuck, stop_at}
 use Rattle.theory.proofs.CounterexampleLaws.{value, bit_row, turned, class_by, stop_rows}
 use Rattle.column_masks.proofs.MaskLaws.{says_both, mask_none}
 use Rattle.closure.specs.RuleMasks.{StandFor, SettledMask, ClassesOf, Prepared}
 use Rattle.closure.specs.Closing.{Closes}
-use Rattle.settled.specs.declared.Tested.{Tested}
-use Rattle.settled.specs.declared.Tested.TheVariants as tested
+use Rattle.arrows.specs.declared.Arrow.{Arrow}
+use Rattle.settled.specs.declared.Stop.{Stop}
 use Rattle.settled.specs.Ends.{value_in, row_by, Ends}
 use Rattle.settled.specs.Places.{Skipped, class_in, meets}
 
@@ -52,7 +53,7 @@ module _ {rs : List Rule} {w : List ℕ} (m : ℕ) (s : SettledMask rs w m) wher
       (λ t. true_says (s d) (settled_through (λ x k. ⊎_elim among (λ i. subst (Settled rs w) (sym (Memᴰ.eq_of_singleton i)) (says_true (s c) h)) (Memᴰ.append_cases w k)) t))
 
   -- closed again with a column more, it has what the column and w settle
-  mask_grows : {left right : List ℕ} {n : ℕ} (c r : ℕ) → StandFor rs left right n → Closes left right n (bit_or m (2 ^ c)) r → SettledMask rs (w ++ (c ∷ [])) r
+  mask_grows : {arrows : List Arrow} (c r : ℕ) → StandFor rs arrows → Closes arrows (bit_or m (2 ^ c)) r → SettledMask rs (w ++ (c ∷ [])) r
   mask_grows c r f closes =
       closes rs (w ++ (c ∷ [])) f
       (λ d h. ⊎_elim (λ e. among (Memᴰ.append_right w (Memᴰ.head e))) (λ e. settled_through (λ x k. among (Memᴰ.append_left (c ∷ []) k)) (says_true (s d) e)) (raised_only m c d h))
@@ -76,6 +77,10 @@ module _ {rs : List Rule} {w : List ℕ} (m : ℕ) (s : SettledMask rs w m) wher
   left_from l to (suc n) i e k =
       rw (drop-cons l i 0 (omega (arith, k.within)))
       (ap (by_first (get_or l i 0) (drop (suc i) l)) (mask_tells (column (get_or l i 0)) ∙ k.passed i (omega arith) (omega arith)) ∙ left_from l to n (suc i) (omega arith) (skipped_next k (omega arith)))
+
+-- where the test stops, at entry e of the order that is tested, with entry x left of the produced one
+abbrev pub stops : ℕ → List ℕ → ℕ → ℕ → Stop
+stops m classes e x = record { settled = m; class = class_in classes e (descends x); ascends = not (descends x) }
 
 -- the direction of the entry at a place is that of the first one from there on
 first_descends_lem : (o : Order) (k : ℕ) → first_descends (drop k o) ≡ descends (get_or o k 0)
@@ -218,7 +223,7 @@ module _ (rs : List Rule) (p o : Order) where
           (says_true (says_alike rs (get_or o i 0) (get_or p k 0)) (sym (alike_tells rs classes classed (get_or o i 0) narrow (get_or p k 0)) ∙ pick_yes false (true_says (says_ltb k (length p)) l) refl ∙ e)).0)
 
       -- where it is not met the two rows by the masks show that o is not held
-      testing_fails : meets classes (get_or o i 0) p k ≡ false → Ends rs p o (tested.Stopped m (class_in classes (get_or o i 0) (descends (get_or p k 0))) (not (descends (get_or p k 0))))
+      testing_fails : meets classes (get_or o i 0) p k ≡ false → Ends rs p o (Some (stops m classes (get_or o i 0) (get_or p k 0)))
       testing_fails e = (
         testing_meets false e,
         λ n pn on small.
@@ -226,51 +231,44 @@ module _ (rs : List Rule) (p o : Order) where
             rows_masks n rs (columns (take i o)) (get_or o i 0) (descends (get_or p k 0)) m (class_in classes (get_or o i 0) (descends (get_or p k 0))) (λ d. sym (mask_tells m t.mask d))
             (class_tells rs classes classed (get_or o i 0) narrow (descends (get_or p k 0)))
             (stop_rows n rs p o pn on small (columns (take i o)) (get_or o i 0) (descends (get_or p k 0))
-            (subst (λ down. Stop rs (columns (take i o)) (get_or o i 0) down p o) way (stop_at rs p (drop j p) o i h t.past (entry_meets (λ rest. true) false e)))),
+            (subst (λ down. Stuck rs (columns (take i o)) (get_or o i 0) down p o) way (stop_at rs p (drop j p) o i h t.past (entry_meets (λ rest. true) false e)))),
       )
 
-  -- several are
-  testing_skips : {j m : ℕ} (to n i : ℕ) → n + i ≡ to → Testing rs p o i j m → Skipped m o i to → Testing rs p o to j m
-  testing_skips to zero i e t k = let same : i ≡ to = omega arith in rw (← same) t
-  testing_skips to (suc n) i e t k =
-      testing_skips to n (suc i) (omega arith) (testing_passes t (omega (arith, k.within)) (k.passed i (omega arith) (omega arith))) (skipped_next k (omega arith))
-
 -- The same under all rules for which the test is prepared.
-abbrev pub Midway : List ℕ → List ℕ → ℕ → ℕ → List ℕ → Order → Order → ℕ → ℕ → ℕ → Type 0
-Midway left right n start classes p o i j m = (rs : List Rule) → Prepared rs left right n start classes → Testing rs p o i j m
+abbrev pub Midway : List Arrow → ℕ → List ℕ → Order → Order → ℕ → ℕ → ℕ → Type 0
+Midway arrows start classes p o i j m = (rs : List Rule) → Prepared rs arrows start classes → Testing rs p o i j m
 
 -- The test ends so, under all these rules.
-abbrev pub Ended : List ℕ → List ℕ → ℕ → ℕ → List ℕ → Order → Order → Tested → Type 0
-Ended left right n start classes p o r = (rs : List Rule) → Prepared rs left right n start classes → Ends rs p o r
+abbrev pub Ended : List Arrow → ℕ → List ℕ → Order → Order → Option Stop → Type 0
+Ended arrows start classes p o r = (rs : List Rule) → Prepared rs arrows start classes → Ends rs p o r
 
-module _ (left right : List ℕ) (n start : ℕ) (classes : List ℕ) (p o : Order) where
-  -- the test begins, behind the entries that are settled from the start
-  pub midway_begins : (i : ℕ) → Skipped start o 0 i → Midway left right n start classes p o i 0 start
-  midway_begins i k rs f = testing_skips rs p o i i 0 (omega arith) (testing_begins rs p o start f.settled) k
+module _ (arrows : List Arrow) (start : ℕ) (classes : List ℕ) (p o : Order) where
+  -- the test begins
+  pub midway_begins : Midway arrows start classes p o 0 0 start
+  midway_begins rs f = testing_begins rs p o start f.settled
 
-  module _ (i j m : ℕ) (t : Midway left right n start classes p o i j m) where
-    -- no entry is left
-    pub midway_end : length o ≤ i → Ended left right n start classes p o tested.Held
-    midway_end h rs f = (t rs f).rest ∙ ap (held_behind rs (columns (take i o)) (drop j p)) (drop_of_length-le o {i = i} h)
+  module _ (i j m : ℕ) (t : Midway arrows start classes p o i j m) where
+    -- an entry is passed over
+    pub midway_passes : i < length o → in_mask m (column (get_or o i 0)) ≡ true → Midway arrows start classes p o (i + 1) j m
+    midway_passes h settled rs f = rw (add-one i) (testing_passes rs p o (t rs f) h settled)
 
     module _ (h : i < length o) (unsettled : in_mask m (column (get_or o i 0)) ≡ false) (narrow : column (get_or o i 0) < 16) (k : ℕ) (skipped : Skipped m p j k) where
       -- an entry is not met
-      pub midway_fails : false ≡ meets classes (get_or o i 0) p k → Ended left right n start classes p o (tested.Stopped m (class_in classes (get_or o i 0) (descends (get_or p k 0))) (not (descends (get_or p k 0))))
-      midway_fails e rs f = testing_fails rs p o (t rs f) h unsettled narrow skipped classes f.classed (sym e)
+      pub midway_fails : meets classes (get_or o i 0) p k ≡ false → Ended arrows start classes p o (Some (stops m classes (get_or o i 0) (get_or p k 0)))
+      midway_fails e rs f = testing_fails rs p o (t rs f) h unsettled narrow skipped classes f.classed e
 
-      module _ (e : true ≡ meets classes (get_or o i 0) p k) where
+      module _ (e : meets classes (get_or o i 0) p k ≡ true) where
         -- the last entry is met
-        pub midway_last : i + 1 ≡ length o → Ended left right n start classes p o tested.Held
+        pub midway_last : i + 1 ≡ length o → Ended arrows start classes p o None
         midway_last last rs f =
-            testing_meets rs p o (t rs f) h unsettled narrow skipped classes f.classed true (sym e) ∙ ap (held_behind rs (columns (take (suc i) o)) (drop (suc k) p)) (drop_of_length-le o {i = suc i} (omega arith))
+            testing_meets rs p o (t rs f) h unsettled narrow skipped classes f.classed true e ∙ ap (held_behind rs (columns (take (suc i) o)) (drop (suc k) p)) (drop_of_length-le o {i = suc i} (omega arith))
 
-        -- an entry is met and others follow, of which those that are settled now are passed over
-        pub midway_next : (r to : ℕ) → Closes left right n (bit_or m (2 ^ column (get_or o i 0))) r → Skipped r o (i + 1) to → Midway left right n start classes p o to (k + 1) r
-        midway_next r to closes s rs f =
-            let met : Testing rs p o (suc i) (suc k) r =
-            record {
+        -- an entry is met and others follow
+        pub midway_next : (r : ℕ) → Closes arrows (bit_or m (2 ^ column (get_or o i 0))) r → Midway arrows start classes p o (i + 1) (k + 1) r
+        midway_next r closes rs f =
+            rw (add-one i, add-one k)
+            (record {
               mask = rw (columns_more o i h) (mask_grows m (t rs f).mask (column (get_or o i 0)) r f.rules closes);
-              rest = testing_meets rs p o (t rs f) h unsettled narrow skipped classes f.classed true (sym e);
-              past = past_meets rs p o (t rs f) h unsettled narrow skipped classes f.classed (meets_there classes (get_or o i 0) p k e) (sym e);
-            } in
-            rw (add-one k) (testing_skips rs p o to (to - suc i) (suc i) (omega (arith, s.forth)) met (rw (add-one i) at s))
+              rest = testing_meets rs p o (t rs f) h unsettled narrow skipped classes f.classed true e;
+              past = past_meets rs p o (t rs f) h unsettled narrow skipped classes f.classed (meets_there classes (get_or o i 0) p k (sym e)) e;
+            })

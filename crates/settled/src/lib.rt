@@ -3,14 +3,11 @@
 
 pub mod test;
 
-// How the test ends: the order is held, or the test stops at an entry. Then it hands out the mask of the columns that the entries before settle; whether the first unsettled
-// entry of what is left of the produced order ascends, and where none is left, that it does; and the mask of the entry's class, or none where it has the other direction.
+// Where the test stops, at an entry of an order that is not held: the mask of the columns that the entries before settle; the mask of the entry's class, or none where the entry has
+// the other direction than the first unsettled entry of what is left of the produced order; and whether that one ascends, which it does where none is left.
 #[derive(Clone, Copy)]
-pub enum Tested {
-    Held,
-    Stopped {
-        settled: u16,
-        class: u16,
-        ascends: bool,
-    },
+pub struct Stop {
+    pub settled: u16,
+    pub class: u16,
+    pub ascends: bool,
 }

@@ -4,12 +4,12 @@
 
 ghost use Rattle.std.specs.Prelude.{◌≡◌, ◌-◌, ◌≤◌, length};
 ghost use Rattle.theory.specs.Limits.{scratch_length};
-ghost use Rattle.theory.specs.Refusals.{passed};
-ghost use Rattle.theory.specs.Query.{read_query, query_refusal};
+ghost use Rattle.theory.specs.Query.{read_query};
 ghost use Rattle.theory.specs.Steps.{pair_count, begun, settled_pair};
 
 use numbers::limits::SCRATCH_LENGTH;
 use numbers::scratch::COUNT_PART;
+use query::CheckedQuery;
 
 // The zeroed part is 0 but for the count, which is 1.
 pub fn clear_and_count(scratch: &mut [u8])
@@ -21,8 +21,8 @@ pub fn clear_and_count(scratch: &mut [u8])
 }
 
 // The pair that the count names is settled, and counted.
-pub fn settle_next(query: &[u8], scratch: &mut [u8], count: usize)
-    requires { (query_refusal query.now ≡ passed) × (1 ≤ count) × (count ≤ pair_count (read_query query.now)) × (count ≤ 2048) × (scratch_length ≤ length scratch.old) }
+pub fn settle_next(query: &CheckedQuery, scratch: &mut [u8], count: usize)
+    requires { (1 ≤ count) × (count ≤ pair_count (read_query query.now)) × (count ≤ 2048) × (scratch_length ≤ length scratch.old) }
     ensures { scratch.new ≡ settled_pair (read_query query.now) (count - 1) scratch.old }
 {
     choices::settle_pair(query, scratch, count - 1);

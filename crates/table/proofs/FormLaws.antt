@@ -1,24 +1,21 @@
 -- A table's form: the code's way to the refusal, and what is known of a table that passes.
-use Prim.Native.Nat.{ℕ, suc, ◌*◌, ◌<◌, ◌≤◌}
-use native.Mathlib.Nat.{mul-le-mul, le_of_suc-le-suc}
+use Prim.Native.Nat.{ℕ, zero, suc, ◌+◌, ◌*◌, ◌<◌, ◌≤◌}
+use native.Mathlib.Nat.{mul-le-mul}
 use native.Mathlib.Omega.{arith}
-use mathlib.Core.Path.{◌≡◌, refl}
+use mathlib.Core.Path.{◌≡◌, refl, ap}
 use mathlib.Core.Bool.{Bool, true, false}
 use mathlib.Core.Logic.{◌⊎◌, inl, inr}
 use lib.Dec.{ltb}
-use lib.ListN.{length}
+use lib.ListN.{length, take, drop}
+use lib.Seq.{get_or-take, get_or-drop}
 use borrow.Author.Tests.{le-ltb, ltb-false, eqb-true, eq-eqb}
 use Rattle.theory.specs.Tests.{pick}
-use Rattle.theory.specs.Query.{Bytes, outside}
+use Rattle.theory.specs.Query.{Bytes, byte_at, outside}
 use Rattle.theory.specs.Limits.{max_states, max_produced, max_tested, max_sets, table_sizes, longest_table}
-use Rattle.theory.specs.Refusals.{passed}
-use Rattle.theory.specs.Table.{states_in, produced_in, tested_in, sets_in, successors_base, table_length, form_refusal, starts_refusal, successors_refusal}
+use Rattle.theory.specs.Refusals.{passed, first_of}
+use Rattle.theory.specs.Table.{states_in, produced_in, tested_in, sets_in, successors_base, start_in, table_length, form_refusal, state_refusal, starts_refusal, successors_refusal}
 use Rattle.theory.proofs.Reflect.{says_false, says_or, says_ltb}
 use Rattle.table.specs.Form.{Formed, table_sizes_refusal, run_refusal}
-
--- the product of two bytes
-pub byte_product : (a b : ℕ) → a < 256 → b < 256 → a * b ≤ 65025
-byte_product a b h k = mul-le-mul (le_of_suc-le-suc h) (le_of_suc-le-suc k)
 
 -- past the first check, the form is decided by the sizes and the number of bytes
 pub form_sizes : (t : Bytes) → table_sizes ≤ length t → table_sizes_refusal (states_in t) (produced_in t) (tested_in t) (sets_in t) (length t) ≡ form_refusal t
@@ -74,11 +71,22 @@ pub formed_short : {t : Bytes} → Formed t → length t ≤ longest_table
 formed_short {t} f =
     omega (arith, f.total, f.few_produced, f.few_states, mul-le-mul f.few_states f.few_sets)
 
--- the starts and the successors are two runs of state numbers
-pub starts_run : (t : Bytes) → run_refusal t table_sizes (produced_in t) ≡ starts_refusal t
-unfolding run_refusal starts_refusal
-starts_run t = refl
+-- a run of state numbers is refused as they are refused where they stand
+first_alike : (f g : ℕ → ℕ) (n : ℕ) → ((i : ℕ) → i < n → f i ≡ g i) → first_of f n ≡ first_of g n
+first_alike f g zero h = refl
+first_alike f g (suc n) h = rw (first_alike f g n (λ i l. h i (omega arith)), h n (omega arith))
 
-pub successors_run : (t : Bytes) → run_refusal t (successors_base t) (states_in t * sets_in t) ≡ successors_refusal t
-unfolding run_refusal successors_refusal
-successors_run t = refl
+run_alike : (t run : Bytes) (at : ℕ → ℕ) (n : ℕ) → length run ≡ n → ((i : ℕ) → i < n → byte_at run i ≡ at i) → run_refusal t run ≡ first_of (λ i. state_refusal t (at i)) n
+unfolding run_refusal
+run_alike t run at n e h = rw e (first_alike _ _ n (λ i l. ap (state_refusal t) (h i l)))
+
+-- the starts and the successors are two such runs
+pub starts_run : (t starts : Bytes) → length starts ≡ produced_in t → ((p : ℕ) → p < produced_in t → byte_at starts p ≡ start_in t p) → run_refusal t starts ≡ starts_refusal t
+unfolding starts_refusal
+starts_run t starts = run_alike t starts (start_in t) (produced_in t)
+
+pub successors_run : (t successors : Bytes) → length successors ≡ states_in t * sets_in t → successors ≡ take (states_in t * sets_in t) (drop (successors_base t) t) → run_refusal t successors ≡ successors_refusal t
+unfolding successors_refusal
+successors_run t successors e h =
+    run_alike t successors (λ i. byte_at t (successors_base t + i)) (states_in t * sets_in t) e
+    (λ i l. rw (h, get_or-take {A = ℕ} (states_in t * sets_in t) _ i 0 l, get_or-drop (successors_base t) t i 0))

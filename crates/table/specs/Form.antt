@@ -25,9 +25,6 @@ table_sizes_refusal q p t s total =
     (pick (ltb max_tested t) size_refused
     (pick (ltb max_sets s) size_refused (pick (eqb total (table_sizes + p + q * s + q * held_width)) passed length_refused))))
 
--- Refusal 11 of the state number at a place behind `base`, and of n of them: the starts and the successors are two such runs.
-abbrev pub entry_refusal : Bytes → ℕ → ℕ → ℕ
-entry_refusal t base i = state_refusal t (byte_at t (base + i))
-
-unfoldable pub run_refusal : Bytes → ℕ → ℕ → ℕ
-run_refusal t base n = first_of (entry_refusal t base) n
+-- Refusal 11 of state numbers, one after the other: the starts and the successors are two such runs.
+unfoldable pub run_refusal : Bytes → Bytes → ℕ
+run_refusal t run = first_of (λ i. state_refusal t (byte_at run i)) (length run)

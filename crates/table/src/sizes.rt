@@ -1,13 +1,15 @@
 // The sizes of a table, and the check of its form.
-ghost use Rattle.std.specs.Prelude.{◌≡◌, ◌+◌, ◌*◌, ◌<◌};
-ghost use Rattle.theory.specs.Limits.{table_sizes};
+ghost use Rattle.std.specs.Prelude.{◌≡◌, ◌<◌, length, IfOk};
 ghost use Rattle.theory.specs.Table.{states_in, produced_in, tested_in, sets_in, successors_base, held_base, form_refusal};
+ghost use Rattle.numbers.specs.Refusals.{refusal_in};
 ghost use Rattle.table.specs.Form.{table_sizes_refusal};
 
+use crate::formed::FormedTable;
 use byte_rows::byte;
-use numbers::{limits, refusals};
+use numbers::limits;
+use numbers::refusals::Refusal;
 
-// The sizes Q, P, T, S.
+// The sizes Q, P, T, S. Each has a reader of its own, since a name tells more than the place of a byte.
 pub fn states(table: &[u8]) -> usize
     ensures { (result ≡ states_in table.now) × (result < 256) }
 {
@@ -42,58 +44,41 @@ pub fn successors_base(table: &[u8]) -> usize
 pub fn held_base(table: &[u8]) -> usize
     ensures { (result ≡ held_base table.now) × (result < 65536) }
 {
-    past_successors(states(table), produced(table), sets(table))
-}
-
-// Sizes, starts and successors take so many bytes. The sizes are bytes: every caller has read them from a table or passed their limits.
-fn past_successors(q: usize, p: usize, s: usize) -> usize
-    requires { (q < 256) × (p < 256) × (s < 256) }
-    ensures { (result ≡ table_sizes + p + q * s) × (result < 65536) }
-{
-    limits::TABLE_SIZES + p + q * s
+    successors_base(table) + states(table) * sets(table)
 }
 
 // The checks 2 and 1 on the sizes and the number of bytes: a size outside its limits; a total other than the sizes imply.
-fn sizes_refusal(q: usize, p: usize, t: usize, s: usize, total: usize) -> u8
-    ensures { result ≡ table_sizes_refusal q p t s total }
+fn check_sizes(table: &[u8]) -> Result<(), Refusal>
+    ensures { refusal_in result ≡ table_sizes_refusal (states_in table.now) (produced_in table.now) (tested_in table.now) (sets_in table.now) (length table.now) }
 {
-    if q < 1 {
-        return refusals::SIZE;
+    let q = states(table);
+    let p = produced(table);
+    let t = tested(table);
+    let s = sets(table);
+    if q < 1
+        || limits::MAX_STATES < q
+        || p < 1
+        || (limits::MAX_PRODUCED as usize) < p
+        || (limits::MAX_TESTED as usize) < t
+        || (limits::MAX_SETS as usize) < s
+    {
+        return Err(Refusal::Size);
     }
-    if limits::MAX_STATES < q {
-        return refusals::SIZE;
-    }
-    if p < 1 {
-        return refusals::SIZE;
-    }
-    if (limits::MAX_PRODUCED as usize) < p {
-        return refusals::SIZE;
-    }
-    if (limits::MAX_TESTED as usize) < t {
-        return refusals::SIZE;
-    }
-    if (limits::MAX_SETS as usize) < s {
-        return refusals::SIZE;
-    }
-    if total == past_successors(q, p, s) + q * limits::HELD_WIDTH {
-        refusals::PASSED
+    if table.len() == held_base(table) + q * limits::HELD_WIDTH {
+        Ok(())
     } else {
-        refusals::LENGTH
+        Err(Refusal::Length)
     }
 }
 
 // The form of a table: 1 for fewer than four bytes, then 2, then 1 for the total.
-pub fn form(table: &[u8]) -> u8
-    ensures { result ≡ form_refusal table.now }
+pub fn form(table: &[u8]) -> Result<FormedTable<'_>, Refusal>
+    ensures refusal { refusal_in result ≡ form_refusal table.now }
+    ensures bytes { IfOk result (λ formed. formed ≡ table.now) }
 {
     if table.len() < limits::TABLE_SIZES {
-        return refusals::LENGTH;
+        return Err(Refusal::Length);
     }
-    sizes_refusal(
-        states(table),
-        produced(table),
-        tested(table),
-        sets(table),
-        table.len(),
-    )
+    check_sizes(table)?;
+    Ok(FormedTable::new(table))
 }

@@ -18,8 +18,8 @@ use Rattle.theory.proofs.MachineTable as table
 use Rattle.theory.proofs.PlacedLaws.{part_behind, part_placed}
 use Rattle.row_search.specs.RowStates.{row_state, row_states}
 use Rattle.row_search.proofs.FindLaws.{rows_count}
-use Rattle.table_rows.specs.Rows.{RowsFound}
-use Rattle.table_rows.specs.Walk.{machine_of, states_of, RowsVisited, Walked}
+use Rattle.table_rows.specs.Rows.{RowsStored}
+use Rattle.table_rows.specs.Walk.{machine_of, states_of, RowsVisited}
 use Rattle.table_rows.proofs.WalkLaws.{visited_all}
 use Rattle.table_rows.proofs.WordTables.{rows_front}
 use Rattle.table_rows.proofs.HeldLaws.{held_rows, holding, held_length, holding_length}
@@ -84,19 +84,19 @@ module _ (z : Sizes) (words work : Bytes) (count : ℕ) (v : RowsVisited z words
           held = subst (λ n. take (n * held_width) (drop held_part after) ≡ flatten (map held_bytes (rows_table z words).held)) found_count held_kept;
         }
 
-module _ (z : Sizes) (before work : Bytes) (count : ℕ) (few : z.produced ≤ max_produced) (small : z.sets ≤ max_sets)
-    (w : Walked z (take held_part before) work count count) where
+module _ (z : Sizes) (before : Bytes) (few : z.produced ≤ max_produced) (small : z.sets ≤ max_sets) where
   -- what the walk leaves where there is no room, and with the held words where there is
-  pub rows_over : max_states < count → RowsFound z before work count
+  pub rows_over : max_states < length (states_of z (take held_part before)) → max_states < (rows_table z before).state_count
   unfolding walked_table table_of
-  rows_over more =
-      record { fits = λ f. absurd (omega arith); over = λ f. subst (λ t. max_states < t.state_count) (rows_front z before few small) (w.over more) }
+  rows_over more = subst (λ t. max_states < t.state_count) (rows_front z before few small) more
 
-  pub rows_found : count ≤ max_states → work_length ≤ length work → RowsFound z before (holding (z.produced + z.tested) z.sets work count) count
-  rows_found fits long =
+  pub rows_found : (work : Bytes) (count : ℕ) → RowsVisited z (take held_part before) work count count → work_length ≤ length work →
+      RowsStored z before (holding (z.produced + z.tested) z.sets work count) count
+  rows_found work count v long =
       let words = take held_part before in
+      let front = rows_front z before few small in
       record {
-        fits = λ f. subst (λ t. (count ≡ t.state_count) × Stored t (holding (z.produced + z.tested) z.sets work count)) (rows_front z before few small)
-            (found_count z words work count (w.fits fits), found_stored z words work count (w.fits fits) long few small);
-        over = λ f. absurd (omega arith);
+        few = v.pairs.few;
+        all = found_count z words work count v ∙ ap (λ t. t.state_count) front;
+        stored = subst (λ t. Stored t (holding (z.produced + z.tested) z.sets work count)) front (found_stored z words work count v long few small);
       }

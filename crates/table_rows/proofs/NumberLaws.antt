@@ -4,6 +4,7 @@ use native.Mathlib.Nat.{add-zero, zero-add}
 use native.Mathlib.Omega.{arith}
 use mathlib.Core.Path.{◌≡◌, refl, sym, ◌∙◌, ap, ap₂, subst}
 use mathlib.Core.List.{List, [], ◌∷◌, ◌++◌, Memᴰ}
+use Rattle.std.specs.Prelude.{Some, None}
 use lib.ListN.{length, take, length-append}
 use borrow.Author.Count.{below_more}
 use Rattle.theory.specs.Tests.{position}
@@ -59,8 +60,7 @@ module _ (sets : ℕ) (work after : Bytes) (count : ℕ) (same : (k : ℕ) → k
         opened = opened_kept n bits sets work after e behind w.opened;
       }
 
-module _ (n bits sets : ℕ) (work : Bytes) (count p m place : ℕ) (pairs : Pairs sets work count) (wholes : Wholes n bits sets work count)
-    (found : place ≡ position same_tree (state_of bits sets (take held_part work) p m) (row_states bits sets work count)) where
+module _ (n bits sets : ℕ) (work : Bytes) (count p m : ℕ) (pairs : Pairs sets work count) (wholes : Wholes n bits sets work count) where
   abbrev x : AnswerTree
   x = state_of bits sets (take held_part work) p m
 
@@ -68,42 +68,37 @@ module _ (n bits sets : ℕ) (work : Bytes) (count p m place : ℕ) (pairs : Pai
   rows = row_states bits sets work count
 
   -- the state is among the rows
-  pub numbering_known : place < count → Numbering n bits sets work work x count place count
-  numbering_known h =
+  pub numbering_known : (place : ℕ) → place < count → place ≡ position same_tree (state_of bits sets (take held_part work) p m) (row_states bits sets work count) →
+      Numbering n bits sets work work x count (Some (record { number = place; count = count }))
+  numbering_known place h found =
       let member : Memᴰ x rows = position_member decides_tree x rows (omega (arith, rows_count bits sets work count)) in
       record {
         kept = refl;
         words = refl;
         behind = λ k l. refl;
-        more = omega arith;
-        one = omega arith;
-        pairs = λ l. pairs;
-        wholes = λ l. wholes;
-        states = λ l. sym (add_known decides_tree x rows member);
-        place = λ l. found;
-        below = λ l. h;
-        over = λ l. absurd (omega (arith, pairs.few));
+        row = record {
+          more = omega arith;
+          one = omega arith;
+          pairs = pairs;
+          wholes = wholes;
+          states = sym (add_known decides_tree x rows member);
+          place = found;
+          below = h;
+        };
       }
 
-  module _ (h : count ≤ place) where
+  module _ (absent : position same_tree (state_of bits sets (take held_part work) p m) (row_states bits sets work count) ≡ count) where
     new : ¬ Memᴰ x rows
     new k = let z : ⊥ = omega (arith, position_bound decides_tree x rows k, rows_count bits sets work count) in z
 
     -- it is not, and there is no room
-    pub numbering_full : count ≡ max_states → Numbering n bits sets work work x count place (max_states + 1)
+    pub numbering_full : count ≡ max_states → Numbering n bits sets work work x count None
     numbering_full full =
         record {
           kept = refl;
           words = refl;
           behind = λ k l. refl;
-          more = omega arith;
-          one = omega arith;
-          pairs = λ l. absurd (omega arith);
-          wholes = λ l. absurd (omega arith);
-          states = λ l. absurd (omega arith);
-          place = λ l. absurd (omega arith);
-          below = λ l. absurd (omega arith);
-          over = λ l. rw (add_new decides_tree x rows new, length-append, rows_count, full) (omega arith);
+          row = rw (add_new decides_tree x rows new, length-append, rows_count, full) (omega arith);
         }
 
     -- the pair is written as the next row
@@ -132,7 +127,7 @@ module _ (n bits sets : ℕ) (work : Bytes) (count p m place : ℕ) (pairs : Pai
           ∙ ap₂ (λ l y. l ++ (y ∷ [])) (rows_kept sets work after count front bits words)
           (ap (λ w. state_of bits sets w (byte_at after (row_place count)) (byte_at after (row_place count + 1))) words ∙ ap₂ (state_of bits sets (take held_part work)) first second)
 
-      pub numbering_new : Numbering n bits sets work (placed (row_place count) (p ∷ m ∷ []) work) x count count (count + 1)
+      pub numbering_new : Numbering n bits sets work (placed (row_place count) (p ∷ m ∷ []) work) x count (Some (record { number = count; count = count + 1 }))
       numbering_new =
           let before = pairs_kept sets work after count front pairs in
           let behind : (k : ℕ) → successors_part ≤ k → byte_at after k ≡ byte_at work k = (λ k l. byte_behind k (row_place count) (p ∷ m ∷ []) work (omega arith) room) in
@@ -141,20 +136,21 @@ module _ (n bits sets : ℕ) (work : Bytes) (count p m place : ℕ) (pairs : Pai
             kept = placed_length (row_place count) (p ∷ m ∷ []) work (omega arith);
             words = words;
             behind = behind;
-            more = omega arith;
-            one = omega arith;
-            pairs = λ l. record {
-              few = l;
-              orders = below_more _ count before.orders (omega (arith, first));
-              choices = below_more _ count before.choices (rw second choice);
+            row = record {
+              more = omega arith;
+              one = omega arith;
+              pairs = record {
+                few = omega arith;
+                orders = below_more _ count before.orders (omega (arith, first));
+                choices = below_more _ count before.choices (rw second choice);
+              };
+              wholes = record {
+                own = below_more _ count known.own (omega (arith, first));
+                whole = below_more _ count known.whole (rw (first, second) (ap (λ o. suc (m + o)) (behind (open_at sets p m) (omega arith)) ∙ whole));
+                opened = known.opened;
+              };
+              states = grown ∙ sym (add_new decides_tree x rows new);
+              place = sym (ap (position same_tree x) grown ∙ position_new decides_tree x rows new ∙ rows_count bits sets work count);
+              below = omega arith;
             };
-            wholes = λ l. record {
-              own = below_more _ count known.own (omega (arith, first));
-              whole = below_more _ count known.whole (rw (first, second) (ap (λ o. suc (m + o)) (behind (open_at sets p m) (omega arith)) ∙ whole));
-              opened = known.opened;
-            };
-            states = λ l. grown ∙ sym (add_new decides_tree x rows new);
-            place = λ l. sym (ap (position same_tree x) grown ∙ position_new decides_tree x rows new ∙ rows_count bits sets work count);
-            below = λ l. omega arith;
-            over = λ l. absurd (omega arith);
           }

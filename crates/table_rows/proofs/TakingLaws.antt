@@ -6,6 +6,7 @@ use native.Mathlib.Omega.{arith}
 use mathlib.Core.Path.{◌≡◌, sym, ◌∙◌, ap, ap₂, subst}
 use mathlib.Core.List.{List, [], map, IsPrefix, flatten}
 use lib.Bits.{bit_or}
+use Rattle.std.specs.Prelude.{Some, None}
 use lib.ListN.{length, take, get_or, set}
 use Rattle.theory.specs.Tests.{position, up_from}
 use Rattle.theory.specs.Limits.{max_sets, max_states}
@@ -24,6 +25,7 @@ use Rattle.open_sets.proofs.StateLaws.{state_next}
 use Rattle.row_pairs.specs.RowPairs.{row_place}
 use Rattle.row_search.specs.RowStates.{row_state, row_states}
 use Rattle.row_search.proofs.FindLaws.{rows_count, rows_at}
+use Rattle.table_rows.specs.declared.numbered.RowNumber.{RowNumber}
 use Rattle.table_rows.specs.Walk.{Numbering, machine_of, states_of, walk_on, RowsVisited, Visiting, Taking, Walked}
 use Rattle.table_rows.proofs.WalkLaws.{slot_bound, ahead_prefix, joined, joined_number, joined_over, stored_successor}
 
@@ -83,26 +85,24 @@ module _ (z : Sizes) (words : Bytes) where
     x = state_of bits z.sets words p m
 
     -- where it has taken all sets, the rows up to i have been visited
-    pub taking_all : s ≡ z.sets → Walked z words work count (i + 1)
+    pub taking_all : s ≡ z.sets → Walked z words work (Some count) (i + 1)
     taking_all e =
         let v = t.visiting in
         let few = v.pairs.few in
         let within = t.within in
         let none : z.sets - s ≡ 0 = omega arith in
         let fuel : max_states - i ≡ suc max_states - suc i = omega arith in
-        let end : i * z.sets + s ≡ (i + 1) * z.sets = rw (add-one, suc-mul, e) in
-        record {
-          within = omega arith;
-          fits = λ f. record {
+        let end : i * z.sets + s ≡ (i + 1) * z.sets = rw (add-one, suc-mul, e) in (
+          omega arith,
+          record {
             pairs = v.pairs;
             wholes = v.wholes;
             first = v.first;
             ahead = rw add-one (rw (none, fuel) at v.ahead);
             starts = v.starts;
             successors = subst (λ n. (j : ℕ) → j < n → byte_at work (successors_part + j) ≡ get_or (flatten (rows_table z words).successors) j 0) end v.successors;
-          };
-          over = λ f. absurd (omega arith);
-        }
+          },
+        )
 
     -- the successor for set s
     successor : s < z.sets → get_or (flatten (rows_table z words).successors) (i * z.sets + s) 0 ≡ position same_tree (take_tree x s) all
@@ -114,32 +114,26 @@ module _ (z : Sizes) (words : Bytes) where
         ∙ ap (λ y. position same_tree (take_tree y s) all) t.state
 
     -- it takes set s: the pair with that set in force too is numbered
-    module _ (h : s < z.sets) {after : Bytes} {r number known : ℕ} (d : r ≡ bit_or m (2 ^ s))
-        (j : Numbering z.produced bits z.sets work after (state_of bits z.sets (take held_part work) p r) count number known) where
-      e : state_of bits z.sets (take held_part work) p r ≡ take_tree x s
-      e = ap₂ (λ w k. state_of bits z.sets w p k) t.visiting.first d ∙ state_next bits z.sets words p m s h
+    module _ (h : s < z.sets) {q r : ℕ} (o : q ≡ p) (d : r ≡ bit_or m (2 ^ s)) where
+      e : state_of bits z.sets (take held_part work) q r ≡ take_tree x s
+      e = ap (λ w. state_of bits z.sets w q r) t.visiting.first ∙ ap₂ (state_of bits z.sets words) o d ∙ state_next bits z.sets words p m s h
 
       -- there was no room, ..
-      pub taking_over : max_states < known → Walked z words after known (i + 1)
-      taking_over more =
-          record {
-            within = omega (arith, j.more, t.within);
-            fits = λ f. absurd (omega arith);
-            over = joined_over z words (take_tree x) s z.sets t.visiting h e j;
-          }
+      pub taking_over : {after : Bytes} → Numbering z.produced bits z.sets work after (state_of bits z.sets (take held_part work) q r) count None → max_states < length (states_of z words)
+      taking_over j = joined_over z words (take_tree x) s z.sets t.visiting h e j
 
       -- .. or the successor is written, and the sets before number s + 1 are taken
-      pub taking_more : z.sets ≤ max_sets → work_length ≤ length work → known ≤ max_states → (at : ℕ) → at ≡ successors_part + (i * z.sets + s) →
-          Taking z words (set after at number) known i p m (s + 1)
-      taking_more small room few at there =
-          let more = joined z words (take_tree x) s z.sets t.visiting h e j few in
-          let name = joined_number z words (take_tree x) s z.sets t.visiting h e j few in
+      pub taking_more : {after : Bytes} {row : RowNumber} → Numbering z.produced bits z.sets work after (state_of bits z.sets (take held_part work) q r) count (Some row) →
+          z.sets ≤ max_sets → work_length ≤ length work → (at : ℕ) → at ≡ successors_part + (i * z.sets + s) → Taking z words (set after at row.number) row.count i p m (s + 1)
+      taking_more {after} {row} j small room at there =
+          let more = joined z words (take_tree x) s z.sets t.visiting h e j in
+          let name = joined_number z words (take_tree x) s z.sets t.visiting h e j in
           let slot = slot_bound z.sets i s small (omega (arith, t.within, t.visiting.pairs.few)) h in
           record {
             order = t.order;
             choice = t.choice;
-            within = omega (arith, j.more, t.within);
+            within = omega (arith, j.row.more, t.within);
             row = t.row;
             state = t.state;
-            visiting = rw there (stored_successor z words more (omega (arith, j.kept)) number slot (name ∙ sym (successor h)) (i * z.sets + (s + 1)) (omega arith));
+            visiting = rw there (stored_successor z words more (omega (arith, j.kept)) row.number slot (name ∙ sym (successor h)) (i * z.sets + (s + 1)) (omega arith));
           }

@@ -6,6 +6,7 @@ use native.Mathlib.Omega.{arith}
 use mathlib.Core.Path.{◌≡◌, refl, sym, ◌∙◌, ap, subst}
 use mathlib.Core.List.Memᴰ
 use mathlib.Core.List.{List, [], ◌∷◌, map, IsPrefix, flatten}
+use Rattle.std.specs.Prelude.{Some, None}
 use lib.ListN.{length, take, get_or, set}
 use lib.Seq.{take-set-le, get_or-set_same, get_or-set_other}
 use borrow.Author.Count.{below_none, below_more}
@@ -27,6 +28,7 @@ use Rattle.open_sets.specs.Open.{Opened}
 use Rattle.row_pairs.specs.RowPairs.{row_place}
 use Rattle.row_search.specs.RowStates.{row_states}
 use Rattle.row_search.proofs.FindLaws.{rows_count}
+use Rattle.table_rows.specs.declared.numbered.RowNumber.{RowNumber}
 use Rattle.table_rows.specs.Walk.{Numbering, machine_of, states_of, walk_on, RowsWalking, Starting, RowsVisited}
 use Rattle.table_rows.proofs.NumberLaws.{rows_kept, pairs_kept, wholes_kept}
 
@@ -53,8 +55,8 @@ module _ (z : Sizes) (words : Bytes) where
       (walk_keeps decides_tree (λ x. map (take_tree x) (up_from 0 z.sets)) max_states fuel (add_all same_tree l rest) i))
 
   -- The next state of those that are still to be added is numbered.
-  module _ (f : ℕ → AnswerTree) (s n : ℕ) {work after : Bytes} {count fuel next begun taken number known : ℕ} {x : AnswerTree}
-      (w : RowsWalking z words work count (map f (up_from s (n - s))) fuel next begun taken) (h : s < n) (e : x ≡ f s) (j : Numbering z.produced bits z.sets work after x count number known) where
+  module _ (f : ℕ → AnswerTree) (s n : ℕ) {work : Bytes} {count fuel next begun taken : ℕ} {x : AnswerTree}
+      (w : RowsWalking z words work count (map f (up_from s (n - s))) fuel next begun taken) (h : s < n) (e : x ≡ f s) where
     abbrev grown : List AnswerTree
     grown = add same_tree (row_states bits z.sets work count) x
 
@@ -69,27 +71,28 @@ module _ (z : Sizes) (words : Bytes) where
     begins = ahead_prefix grown rest fuel next on
 
     -- where there was no room there are more states, ..
-    pub joined_over : max_states < known → max_states < length (states_of z words)
-    joined_over more = omega (arith, j.over more, prefix_length grown begins)
+    pub joined_over : {after : Bytes} → Numbering z.produced bits z.sets work after x count None → max_states < length (states_of z words)
+    joined_over j = omega (arith, j.row, prefix_length grown begins)
 
-    -- .. else the number is that of the state among all, ..
-    pub joined_number : known ≤ max_states → number ≡ position same_tree (f s) (states_of z words)
-    joined_number few =
-        j.place few ∙ ap (position same_tree x) (j.states few)
-        ∙ sym (position_grows decides_tree x grown begins (add_all_has decides_tree (x ∷ []) (row_states bits z.sets work count) x (Memᴰ.head refl)))
-        ∙ ap (λ y. position same_tree y all) e
+    module _ {after : Bytes} {r : RowNumber} (j : Numbering z.produced bits z.sets work after x count (Some r)) where
+      -- .. else the number is that of the state among all, ..
+      pub joined_number : r.number ≡ position same_tree (f s) (states_of z words)
+      joined_number =
+          j.row.place ∙ ap (position same_tree x) j.row.states
+          ∙ sym (position_grows decides_tree x grown begins (add_all_has decides_tree (x ∷ []) (row_states bits z.sets work count) x (Memᴰ.head refl)))
+          ∙ ap (λ y. position same_tree y all) e
 
-    -- .. and the states behind it are still to be added
-    pub joined : known ≤ max_states → RowsWalking z words after known (map f (up_from (s + 1) (n - (s + 1)))) fuel next begun taken
-    joined few =
-        record {
-          pairs = j.pairs few;
-          wholes = j.wholes few;
-          first = j.words ∙ w.first;
-          ahead = on ∙ ap (λ l. walk_on z fuel (add_all same_tree l rest) next) (sym (j.states few));
-          starts = λ p l. j.behind (starts_part + p) (omega arith) ∙ w.starts p l;
-          successors = λ k l. j.behind (successors_part + k) (omega arith) ∙ w.successors k l;
-        }
+      -- .. and the states behind it are still to be added
+      pub joined : RowsWalking z words after r.count (map f (up_from (s + 1) (n - (s + 1)))) fuel next begun taken
+      joined =
+          record {
+            pairs = j.row.pairs;
+            wholes = j.row.wholes;
+            first = j.words ∙ w.first;
+            ahead = on ∙ ap (λ l. walk_on z fuel (add_all same_tree l rest) next) (sym j.row.states);
+            starts = λ p l. j.behind (starts_part + p) (omega arith) ∙ w.starts p l;
+            successors = λ k l. j.behind (successors_part + k) (omega arith) ∙ w.successors k l;
+          }
 
   -- A start's number and a successor's number are written behind the rows.
   module _ {work : Bytes} {count fuel next begun taken : ℕ} {rest : List AnswerTree} (w : RowsWalking z words work count rest fuel next begun taken)

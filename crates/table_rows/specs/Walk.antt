@@ -1,5 +1,5 @@
--- What the functions that number rows promise. A count of 129 stands for more rows than there is room for.
-use Rattle.std.specs.Prelude.{ℕ, suc, ◌+◌, ◌*◌, ◌-◌, ◌^◌, ◌≤◌, ◌<◌, ◌≡◌, length, take, get_or}
+-- What the functions that number rows promise.
+use Rattle.std.specs.Prelude.{ℕ, suc, ◌+◌, ◌*◌, ◌-◌, ◌^◌, ◌≤◌, ◌<◌, ◌≡◌, Option, MatchOption, length, take, get_or}
 use mathlib.Core.List.{List, [], map, flatten}
 use Rattle.theory.specs.Tests.{position, up_from}
 use Rattle.theory.specs.Limits.{max_states}
@@ -9,23 +9,28 @@ use Rattle.theory.specs.AnswerTree.{AnswerTree, take_tree, held_now, same_tree}
 use Rattle.theory.specs.Query.{Bytes, byte_at}
 use Rattle.theory.specs.Table.{held_bytes}
 use Rattle.theory.specs.Scratch.{held_part, successors_part, starts_part, rows_machine, rows_table}
+use Rattle.query_sizes.specs.declared.Sizes as given
 use Rattle.open_sets.specs.Open.{state_of}
 use Rattle.row_pairs.specs.RowPairs.{Pairs}
 use Rattle.row_search.specs.RowStates.{row_state, row_states, Wholes}
+use Rattle.table_rows.specs.declared.numbered.RowNumber.{RowNumber}
 
--- The state x was numbered among the first `before` rows: it kept its number, or got the next one, or there was no room.
-pub record Numbering (n bits sets : ℕ) (work after : Bytes) (x : AnswerTree) (before number count : ℕ) : Type 0 where
+-- The state x was numbered: of `before` rows, it kept its number, or got the next one.
+pub record Numbered (n bits sets : ℕ) (work after : Bytes) (x : AnswerTree) (before : ℕ) (r : RowNumber) : Type 0 where
+  pub more : before ≤ r.count
+  pub one : r.count ≤ before + 1
+  pub pairs : Pairs sets after r.count
+  pub wholes : Wholes n bits sets after r.count
+  pub states : row_states bits sets after r.count ≡ add same_tree (row_states bits sets work before) x
+  pub place : r.number ≡ position same_tree x (row_states bits sets after r.count)
+  pub below : r.number < r.count
+
+-- The state x was numbered among the first `before` rows, or there was no room.
+pub record Numbering (n bits sets : ℕ) (work after : Bytes) (x : AnswerTree) (before : ℕ) (r : Option RowNumber) : Type 0 where
   pub kept : length after ≡ length work
   pub words : take held_part after ≡ take held_part work
   pub behind : (k : ℕ) → successors_part ≤ k → byte_at after k ≡ byte_at work k
-  pub more : before ≤ count
-  pub one : count ≤ before + 1
-  pub pairs : count ≤ max_states → Pairs sets after count
-  pub wholes : count ≤ max_states → Wholes n bits sets after count
-  pub states : count ≤ max_states → row_states bits sets after count ≡ add same_tree (row_states bits sets work before) x
-  pub place : count ≤ max_states → number ≡ position same_tree x (row_states bits sets after count)
-  pub below : count ≤ max_states → number < count
-  pub over : max_states < count → max_states < length (add same_tree (row_states bits sets work before) x)
+  pub row : MatchOption r (max_states < length (add same_tree (row_states bits sets work before) x)) (Numbered n bits sets work after x before)
 
 -- The machine that the words say, and its numbered states.
 abbrev pub machine_of : (z : Sizes) → Bytes → Machine AnswerTree
@@ -68,15 +73,17 @@ pub record Taking (z : Sizes) (words work : Bytes) (count i p m s : ℕ) : Type 
   pub state : get_or (states_of z words) i (state_of (z.produced + z.tested) z.sets words p m) ≡ state_of (z.produced + z.tested) z.sets words p m
   pub visiting : Visiting z words work count (state_of (z.produced + z.tested) z.sets words p m) i s
 
--- There was room for the rows, or there are more.
-pub record Walked (z : Sizes) (words work : Bytes) (count i : ℕ) : Type 0 where
-  pub within : i ≤ count
-  pub fits : count ≤ max_states → RowsVisited z words work count i
-  pub over : max_states < count → max_states < length (states_of z words)
+-- There was room for the rows, and those before number i have been visited; or there are more.
+abbrev pub Walked : (z : Sizes) → Bytes → Bytes → Option ℕ → ℕ → Type 0
+Walked z words work r i = MatchOption r (max_states < length (states_of z words)) (λ count. (i ≤ count) × RowsVisited z words work count i)
+
+-- There was room for the rows, and all have been visited; or there are more.
+abbrev pub WalkedAll : (z : Sizes) → Bytes → Bytes → Option ℕ → Type 0
+WalkedAll z words work r = MatchOption r (max_states < length (states_of z words)) (λ count. RowsVisited z words work count count)
 
 -- The sizes, as the functions are given them.
-abbrev pub sizes_given : (produced tested sets : ℕ) → Sizes
-sizes_given produced tested sets = record { produced = produced; tested = tested; sets = sets }
+abbrev pub sizes_of : given.Sizes → Sizes
+sizes_of sizes = record { produced = sizes.produced; tested = sizes.tested; sets = sizes.sets }
 
 -- What row i holds, as two bytes.
 abbrev pub held_row : (bits sets : ℕ) → Bytes → ℕ → Bytes

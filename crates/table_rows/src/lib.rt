@@ -8,24 +8,20 @@ mod numbered;
 mod walk;
 
 ghost use Rattle.std.specs.Prelude.{◌≡◌, ◌≤◌, length};
-ghost use Rattle.theory.specs.Limits.{max_produced, max_tested, max_sets};
 ghost use Rattle.theory.specs.Scratch.{work_length};
 ghost use Rattle.table_rows.specs.Rows.{RowsFound};
-ghost use Rattle.table_rows.specs.Walk.{sizes_given};
+ghost use Rattle.table_rows.specs.Walk.{sizes_of};
 
-use numbers::limits::MAX_STATES;
+use query_sizes::Sizes;
 
-// The starts, the rows of successors and the held words, each in its part of the scratch. How many rows there are, 129 where there are more than 128.
-pub fn number(work: &mut [u8], produced: usize, tested: usize, sets: usize) -> usize
-    requires { (1 ≤ produced) × (produced ≤ max_produced) × (tested ≤ max_tested) × (sets ≤ max_sets) × (work_length ≤ length work.old) }
-    ensures { RowsFound (sizes_given produced tested sets) work.old work.new result × (length work.new ≡ length work.old) }
+// The starts, the rows of successors and the held words, each in its part of the scratch. How many rows there are; none where there are more than 128.
+pub fn number(work: &mut [u8], sizes: Sizes) -> Option<usize>
+    requires { (1 ≤ sizes.produced) × (work_length ≤ length work.old) }
+    ensures { RowsFound (sizes_of sizes) work.old work.new result × (length work.new ≡ length work.old) }
 {
-    open_sets::open_pairs(work, produced, produced + tested, sets);
-    let begun = walk::number_starts(work, produced, tested, sets);
-    let count = walk::walk_rows(work, produced, tested, sets, begun);
-    if MAX_STATES < count {
-        return count;
-    }
-    held::hold_rows(work, produced + tested, sets, count);
-    count
+    open_sets::open_pairs(work, sizes.produced, sizes);
+    let begun = walk::number_starts(work, sizes)?;
+    let count = walk::walk_rows(work, sizes, begun)?;
+    held::hold_rows(work, sizes, count);
+    Some(count)
 }

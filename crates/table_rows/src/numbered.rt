@@ -1,6 +1,6 @@
 // A row gets its number.
 ghost use Rattle.std.specs.Prelude.{◌≡◌, suc, ◌+◌, ◌^◌, ◌≤◌, ◌<◌, length, take};
-ghost use Rattle.theory.specs.Limits.{max_produced, max_tested, max_sets};
+ghost use Rattle.theory.specs.Limits.{max_produced};
 ghost use Rattle.theory.specs.Scratch.{held_part, open_in, work_length};
 ghost use Rattle.open_sets.specs.Open.{state_of};
 ghost use Rattle.row_pairs.specs.RowPairs.{Pairs};
@@ -9,6 +9,8 @@ ghost use Rattle.table_rows.specs.Walk.{Numbering};
 
 use numbers::limits::{HELD_WIDTH, MAX_STATES};
 use numbers::scratch::HELD_PART;
+use query_sizes::Sizes;
+use row_pairs::Pair;
 
 // A row's number, and how many rows are numbered.
 #[derive(Clone, Copy)]
@@ -17,59 +19,39 @@ pub struct RowNumber {
     pub count: usize,
 }
 
-// The whole choice that gives the same state as choice m: all sets are in force but the open ones.
-fn whole(work: &[u8], sets: usize, p: usize, m: usize) -> usize
-    requires { (open_in sets work.now p m < 2 ^ sets) × (sets ≤ max_sets) × (p < max_produced) × (m < 2 ^ sets) × (work_length ≤ length work.now) }
-    ensures { suc (result + open_in sets work.now p m) ≡ 2 ^ sets }
+// The whole choice that gives the same state as the pair's choice: all sets are in force but the open ones.
+fn whole(work: &[u8], sizes: Sizes, pair: Pair) -> usize
+    requires { (open_in sizes.sets work.now pair.order pair.choice < 2 ^ sizes.sets) × (pair.order < max_produced) × (pair.choice < 2 ^ sizes.sets) × (work_length ≤ length work.now) }
+    ensures { suc (result + open_in sizes.sets work.now pair.order pair.choice) ≡ 2 ^ sizes.sets }
 {
-    pair_words::choices(sets) - 1 - open_sets::open_in(work, sets, p, m)
+    sizes.choices() - 1 - open_sets::open_in(work, sizes, pair)
 }
 
-// Number the row that produced order p gives under a whole choice k: it keeps the number that it has, or gets the next.
-fn number_whole(
-    work: &mut [u8],
-    produced: usize,
-    tested: usize,
-    sets: usize,
-    count: usize,
-    p: usize,
-    k: usize,
-) -> RowNumber
-    requires { Pairs sets work.old count × Wholes produced (produced + tested) sets work.old count × (produced ≤ max_produced) × (tested ≤ max_tested) × (sets ≤ max_sets) × (p < produced) × (k < 2 ^ sets) × Whole sets work.old p k × (work_length ≤ length work.old) }
-    ensures { Numbering produced (produced + tested) sets work.old work.new (state_of (produced + tested) sets (take held_part work.old) p k) count result.number result.count }
+// Number the row that a pair with a whole choice gives: it keeps the number that it has, or gets the next; none where there is no room for it.
+fn number_whole(work: &mut [u8], sizes: Sizes, count: usize, pair: Pair) -> Option<RowNumber>
+    requires { Pairs sizes.sets work.old count × Wholes sizes.produced (sizes.produced + sizes.tested) sizes.sets work.old count × (pair.order < sizes.produced) × (pair.choice < 2 ^ sizes.sets) × Whole sizes.sets work.old pair.order pair.choice × (work_length ≤ length work.old) }
+    ensures { Numbering sizes.produced (sizes.produced + sizes.tested) sizes.sets work.old work.new (state_of (sizes.produced + sizes.tested) sizes.sets (take held_part work.old) pair.order pair.choice) count result }
 {
-    let number = row_search::find_row(work, produced, tested, sets, count, p, k);
-    if number < count {
-        return RowNumber { number, count };
+    if let Some(number) = row_search::find_row(work, sizes, count, pair) {
+        return Some(RowNumber { number, count });
     }
     if count == MAX_STATES {
-        return RowNumber {
-            number,
-            count: MAX_STATES + 1,
-        };
+        return None;
     }
     let at = HELD_PART + count * HELD_WIDTH;
-    work[at] = p as u8;
-    work[at + 1] = k as u8;
-    RowNumber {
+    work[at] = pair.order as u8;
+    work[at + 1] = pair.choice as u8;
+    Some(RowNumber {
         number: count,
         count: count + 1,
-    }
+    })
 }
 
 // Number the row that a pair gives, by the whole choice that gives the same state.
-pub fn number_row(
-    work: &mut [u8],
-    produced: usize,
-    tested: usize,
-    sets: usize,
-    count: usize,
-    p: usize,
-    m: usize,
-) -> RowNumber
-    requires { Pairs sets work.old count × Wholes produced (produced + tested) sets work.old count × (produced ≤ max_produced) × (tested ≤ max_tested) × (sets ≤ max_sets) × (p < produced) × (m < 2 ^ sets) × (work_length ≤ length work.old) }
-    ensures { Numbering produced (produced + tested) sets work.old work.new (state_of (produced + tested) sets (take held_part work.old) p m) count result.number result.count }
+pub fn number_row(work: &mut [u8], sizes: Sizes, count: usize, pair: Pair) -> Option<RowNumber>
+    requires { Pairs sizes.sets work.old count × Wholes sizes.produced (sizes.produced + sizes.tested) sizes.sets work.old count × (pair.order < sizes.produced) × (pair.choice < 2 ^ sizes.sets) × (work_length ≤ length work.old) }
+    ensures { Numbering sizes.produced (sizes.produced + sizes.tested) sizes.sets work.old work.new (state_of (sizes.produced + sizes.tested) sizes.sets (take held_part work.old) pair.order pair.choice) count result }
 {
-    let k = whole(work, sets, p, m);
-    number_whole(work, produced, tested, sets, count, p, k)
+    let whole = whole(work, sizes, pair);
+    number_whole(work, sizes, count, pair.under(whole))
 }

@@ -22,11 +22,11 @@ fn digit(text: &mut [u8], at: usize, n: usize) -> usize
     requires { at + 1 ≤ length text.old }
     ensures { Wrote text.old at ((48 + n % 10) ∷ []) 1 text.new result }
 {
-    let last = [48 + (n % 10) as u8];
+    let last = [b'0' + (n % 10) as u8];
     word(text, at, &last)
 }
 
-// A number in decimal, its last k digits at most.
+// A number in decimal, its last k digits at most. std does not promise that its printing succeeds where there is room, so it is not used here.
 pub fn number_of(text: &mut [u8], at: usize, k: usize, n: usize) -> usize
     requires { at + k ≤ length text.old }
     ensures { Wrote text.old at (decimal_within k n) k text.new result }
@@ -64,10 +64,8 @@ pub fn row_numbers(row: &[u8], text: &mut [u8], at: usize) -> usize
     ensures { Wrote text.old at (flatten (map spaced row.now)) (length row.now * 4) text.new result }
 {
     let mut end = at;
-    let mut i = 0;
-    while i < row.len() {
-        end = spaced_number(text, end, row[i]);
-        i += 1;
+    for &n in row {
+        end = spaced_number(text, end, n);
     }
     end
 }

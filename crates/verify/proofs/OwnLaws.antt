@@ -17,7 +17,7 @@ use Rattle.theory.specs.Construction.{sizes_of_query}
 use Rattle.theory.specs.Scratch.{joint_states_length}
 use Rattle.theory.specs.Refusals.{passed, states_refused, space_refused, mismatch_refused, answer_refused}
 use Rattle.theory.specs.Query.{Bytes, read_query, query_refusal}
-use Rattle.theory.specs.Table.{numbers_of, write_table, machine_in, sizes_in, table_refusal}
+use Rattle.theory.specs.Table.{Answer, grant, refuse, numbers_of, write_table, machine_in, sizes_in, table_refusal}
 use Rattle.theory.specs.Build.{Constructed, too_many, table, construct, Constructs, Outcome, refused, built, delivered, outcome, written, output_after, scratch_after, zeroed}
 use Rattle.theory.specs.Verification.{SameSizes, same_sizes, mismatch_refusal, answer_refusal, supplied_refusal, verified_with, verify_refusal}
 use Rattle.theory.proofs.Reflect.{says_one, says_as, says_true, true_says, false_says, says_eqb, says_ltb}
@@ -31,7 +31,9 @@ use Rattle.theory.proofs.DemandThree.{query_limited}
 use Rattle.theory.proofs.VerificationLaws.{sizes_are, says_sizes, answers_say}
 use Rattle.theory.proofs.SuppliedTables.{faithful_sizes}
 use Rattle.theory.proofs.ClearLaws.{zeroed_part, zeroed_again}
-use Rattle.builder.specs.declared.Built as answer
+use Rattle.numbers.specs.declared.refusals.Refusal.{Refusal}
+use Rattle.numbers.specs.Refusals.{number_of}
+use Rattle.numbers.proofs.RefusalLaws.{refused as refusal_given, first_refuses, first_passes}
 use Rattle.builder.specs.Built.{built_answer}
 use Rattle.builder.proofs.AnswerLaws.{table_room}
 use Rattle.joint_states.specs.JointStates.{Comparable}
@@ -86,26 +88,26 @@ scratch_cleared query scratch c h = rw (eq-eqb (query_refusal query) passed c, l
 abbrev lent : Bytes
 lent = replicate longest_table 0
 
-module _ (query scratch : Bytes) {r : answer.Built} (a : r ≡ built_answer (outcome query (length scratch) (length lent))) where
+module _ (query scratch : Bytes) where
   -- the build's refusal is the trial's, ..
-  pub build_refused : (t : Bytes) → r.refusal ≢ passed → r.refusal ≡ verify_refusal query t (length scratch)
-  build_refused t n = go (after_build query (length scratch)) a
+  pub build_refused : (r : Refusal) → refuse (number_of r) ≡ built_answer (outcome query (length scratch) (length lent)) → (t : Bytes) → number_of r ≡ verify_refusal query t (length scratch)
+  build_refused r a t = go (after_build query (length scratch)) a
     where
-      go : {o : Outcome} → AfterBuild query (length scratch) o → r ≡ built_answer o → r.refusal ≡ verify_refusal query t (length scratch)
-      go (no_table _ f) e = ap (λ (x : answer.Built). x.refusal) e ∙ f t
-      go (own_table _ _ _) e = absurd (n (ap (λ (x : answer.Built). x.refusal) e))
+      go : {o : Outcome} → AfterBuild query (length scratch) o → refuse (number_of r) ≡ built_answer o → number_of r ≡ verify_refusal query t (length scratch)
+      go (no_table _ f) e = ap (λ (x : Answer). x.refusal) e ∙ f t
+      go (own_table _ _ _) e = absurd (refusal_given r (ap (λ (x : Answer). x.refusal) e))
 
   -- .. or its table is the query's own
-  pub build_granted : {output : Bytes} → output ≡ output_after query (length scratch) lent → r.refusal ≡ passed →
-      (r.length ≤ length output) × Granted query scratch (take r.length output)
+  pub build_granted : {n : ℕ} {output : Bytes} → grant n ≡ built_answer (outcome query (length scratch) (length lent)) → output ≡ output_after query (length scratch) lent →
+      (n ≤ length output) × Granted query scratch (take n output)
   unfolding output_after
-  build_granted {output} w z = go (after_build query (length scratch)) a w
+  build_granted {n} {output} a w = go (after_build query (length scratch)) a w
     where
-      go : {o : Outcome} → AfterBuild query (length scratch) o → r ≡ built_answer o → output ≡ written o lent → (r.length ≤ length output) × Granted query scratch (take r.length output)
-      go (no_table n _) e w = absurd (n (sym (ap (λ (x : answer.Built). x.refusal) e) ∙ z))
+      go : {o : Outcome} → AfterBuild query (length scratch) o → grant n ≡ built_answer o → output ≡ written o lent → (n ≤ length output) × Granted query scratch (take n output)
+      go (no_table h _) e w = absurd (h (sym (ap (λ (x : Answer). x.refusal) e)))
       go (own_table {ours} s o p) e w =
-          let long = ap (λ (x : answer.Built). x.length) e in
-          let same : take r.length output ≡ ours = ap₂ take long w ∙ take_at ours (drop (length ours) lent) (length ours) refl in
+          let long = ap (λ (x : Answer). x.value) e in
+          let same : take n output ≡ ours = ap₂ take long w ∙ take_at ours (drop (length ours) lent) (length ours) refl in
           (rw (w, length-append) (omega arith), rw same (record { room = s; own = o; goes_on = p; cleared = scratch_cleared query scratch o.checked s }))
 
 -- clearing the joint states leaves the scratch as the build left it
@@ -139,14 +141,14 @@ module _ {query ours : Bytes} (o : Own query ours) (t : Bytes) where
   by_checks : {r : ℕ} → r ≡ supplied_refusal (read_query query) o.contents t → OutcomeIs r
   by_checks e = e ∙ ap (λ k. verified_with (read_query query) k t) (sym o.constructed)
 
-  pub form_fails : {r : ℕ} → r ≡ table_refusal t → r ≢ passed → OutcomeIs r
+  pub form_fails : (r : Refusal) → number_of r ≡ table_refusal t → OutcomeIs (number_of r)
   unfolding supplied_refusal
-  form_fails e n = by_checks (rw (ne_eqb (table_refusal t) passed (λ z. n (e ∙ z))) e)
+  form_fails r e = by_checks (first_refuses r _ e)
 
   module _ (passes : table_refusal t ≡ passed) where
-    pub sizes_fail : {r : ℕ} → r ≡ mismatch_refusal (read_query query) t → r ≢ passed → OutcomeIs r
+    pub sizes_fail : (r : Refusal) → number_of r ≡ mismatch_refusal (read_query query) t → OutcomeIs (number_of r)
     unfolding supplied_refusal
-    sizes_fail e n = by_checks (rw (passes, ne_eqb (mismatch_refusal (read_query query) t) passed (λ z. n (e ∙ z))) e)
+    sizes_fail r e = by_checks (first_passes (sym passes) (first_refuses r _ e))
 
     module _ (sizes : mismatch_refusal (read_query query) t ≡ passed) where
       same_sizes_lem : SameSizes (read_query query) t

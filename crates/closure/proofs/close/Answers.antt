@@ -12,7 +12,7 @@ returns-then-next-all c = growing_end c.loop-all.invariant (sym c.pass-next.ensu
 
 pub loop-all-smaller : goal.loop-all-smaller
 loop-all-smaller c = let a = c.args in
-    omega (arith, pass_more a.left.now a.right.now a.n c.loop-all.all, c.pass-next.ensures)
+    omega (arith, pass_more a.arrows.now c.loop-all.all, c.pass-next.ensures)
 
 pub loop-all-preserved : goal.loop-all-preserved
 loop-all-preserved c = rw c.pass-next.ensures (growing_more c.loop-all.invariant)

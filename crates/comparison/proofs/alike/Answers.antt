@@ -6,11 +6,10 @@ use Rattle.comparison.proofs.alike.Goals as goal
 pub same_held-requires : goal.same_held-requires
 same_held-requires c =
     let w = c.requires.0 in
-    let l = joint_below w.comparable _ (w.sound c.args.i cc) in
-    (w.comparable, l.0, l.1)
+    joint_below w.comparable _ (w.sound c.args.i cc)
 
-pub returns-then-has : goal.returns-then-has
-returns-then-has c = alike_one (cc) c.same_held.ensures
+pub returns-then-not-has : goal.returns-then-not-has
+returns-then-not-has c = rw c.if-not-has.true (alike_over (cc))
 
-pub returns-else-has : goal.returns-else-has
-returns-else-has c = alike_over (cc)
+pub returns-else-not-has : goal.returns-else-not-has
+returns-else-not-has c = alike_one (cc) c.same_held.ensures

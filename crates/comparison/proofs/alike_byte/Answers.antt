@@ -11,15 +11,15 @@ pub returns-then-reached-k-eq0 : goal.returns-then-reached-k-eq0
 returns-then-reached-k-eq0 c = holds (alike_skip (byte_none c.args.reached.now c.args.k c.if-reached-k-eq0.true))
 
 pub loop-j-init : goal.loop-j-init
-loop-j-init c = (omega arith, alike_none (omega arith))
+loop-j-init c = alike_none (omega arith)
 
 pub returns-then-not-alike : goal.returns-then-not-alike
 returns-then-not-alike c = unlike (omega arith) (omega arith) c.alike.ensures (ap not c.if-not-alike.true)
 
 pub loop-j-preserved : goal.loop-j-preserved
-loop-j-preserved c = (omega arith, alike_more (omega arith) c.loop-j.invariant.1 c.alike.ensures (ap not c.if-not-alike.false))
+loop-j-preserved c = alike_more (omega arith) c.loop-j.invariant c.alike.ensures (ap not c.if-not-alike.false)
 
 pub returns : goal.returns
 returns c = let l = c.loop-j in
     let end : l.j ≡ 8 = omega arith in
-    holds (rw end at l.invariant.1)
+    holds (rw end at l.invariant)

@@ -4,4 +4,4 @@ use Rattle.comparison.proofs.AnswerLaws.{alike_answers}
 use Rattle.comparison.proofs.same_answers.Goals as goal
 
 pub returns : goal.returns
-returns c = let t = c.reach.ensures in (alike_answers t c.all_alike.ensures, t.walking.long ∙ sym c.requires.1)
+returns c = let t = c.reach.ensures in (alike_answers t c.all_alike.ensures, t.walking.long ∙ sym c.requires)

@@ -1,39 +1,34 @@
 -- `counterexample::find` meets its contract: the checks in their order, then what is shown.
-use borrow.Author.Rules.{rules}
 use native.Mathlib.Omega.{arith}
-use mathlib.Core.Path.{sym, ◌∙◌, subst}
+use mathlib.Core.Path.{sym, ◌∙◌, ap, subst}
+use Rattle.theory.specs.Query.{read_query}
 use Rattle.theory.specs.Table.{refuse}
-use Rattle.theory.specs.Counterexamples.{Shows, query_refused, not_named, rows_short}
+use Rattle.theory.specs.Counterexamples.{Named, Askable, Shows, query_refused, not_named, rows_short}
 use Rattle.theory.proofs.Reflect.{says_true, says_false}
 use Rattle.theory.proofs.QueryLaws.{column_count_lem}
+use Rattle.numbers.proofs.RefusalLaws.{refused}
 use Rattle.counterexample.proofs.NamedLaws.{askable}
+use Rattle.counterexample.proofs.ShowLaws.{passed_on_found}
 use Rattle.counterexample.proofs.find.Goals as goal
 
-pub returns-then-refusal-ne-PASSED : goal.returns-then-refusal-ne-PASSED
-returns-then-refusal-ne-PASSED c = let a = c.args in let q = a.query.now in let rows = a.rows.now in
-    record {
-      shows = subst (λ n. Shows q a.produced.0 a.sets.0 a.order.0 rows (refuse n) rows) (sym c.check-refusal.ensures) (query_refused (λ e. c.if-refusal-ne-PASSED.true (c.check-refusal.ensures ∙ e)));
-      listed_found = c.if-refusal-ne-PASSED.true;
-    }
+pub returns-in_err-checked-clause-shows : goal.returns-in_err-checked-clause-shows
+returns-in_err-checked-clause-shows c = let a = c.args in let q = a.query.now in let rows = a.rows.now in
+    let refusal = c.in_err-checked.field-0.0 in
+    subst (λ answer. Shows q a.produced.0 a.sets.0 a.order.0 rows answer rows)
+    (sym (passed_on_found c.from_residual.result refusal c.from_residual.ensures.1 ∙ ap refuse c.in_err-checked.ensures.refusal))
+    (query_refused (λ e. refused refusal (c.in_err-checked.ensures.refusal ∙ e)))
 
-pub returns-then-not-named : goal.returns-then-not-named
-returns-then-not-named c = record {
-  shows = not_named (sym c.check-refusal.ensures ∙ c.if-refusal-ne-PASSED.false) (says_false c.named.ensures c.if-not-named.true);
-  listed_found = λ e. omega arith;
-}
+pub returns-then-not-named-clause-shows : goal.returns-then-not-named-clause-shows
+returns-then-not-named-clause-shows c = let a = c.args in let ok = c.in_ok-checked in
+    not_named (sym ok.ensures.refusal) (subst (λ b. ¬ Named (read_query b) a.produced.0 a.sets.0 a.order.0) ok.ensures.bytes (says_false c.named.ensures c.if-not-named.true))
+
+pub returns-then-rows-columns-clause-shows : goal.returns-then-rows-columns-clause-shows
+returns-then-rows-columns-clause-shows c = let a = c.args in let ok = c.in_ok-checked in
+    rows_short (sym ok.ensures.refusal) (subst (λ b. Named (read_query b) a.produced.0 a.sets.0 a.order.0) ok.ensures.bytes (says_true c.named.ensures c.if-not-named.false))
+    (omega (arith, column_count_lem a.query.now))
 
 pub show-requires : goal.show-requires
-show-requires c =
-    askable _ _ _ _ _ c.if-columns-rows.true (search rules)
-    (sym c.check-refusal.ensures ∙ c.if-refusal-ne-PASSED.false)
-    (says_true c.named.ensures c.if-not-named.false)
-
-pub returns-then-columns-rows : goal.returns-then-columns-rows
-returns-then-columns-rows c = record { shows = c.show.ensures.0; listed_found = c.show.ensures.1 }
-
-pub returns : goal.returns
-returns c =
-    let q = c.args.query.now in record {
-      shows = rows_short (sym c.check-refusal.ensures ∙ c.if-refusal-ne-PASSED.false) (says_true c.named.ensures c.if-not-named.false) (omega (arith, column_count_lem q));
-      listed_found = λ e. omega arith;
-    }
+show-requires c = let a = c.args in let ok = c.in_ok-checked in
+    subst (λ b. Askable b a.produced.0 a.sets.0 a.order.0 a.rows.now) (sym ok.ensures.bytes)
+    (askable a.query.now a.produced.0 a.sets.0 a.order.0 a.rows.now c.if-rows-columns.false c.columns.ensures (sym ok.ensures.refusal)
+    (subst (λ b. Named (read_query b) a.produced.0 a.sets.0 a.order.0) ok.ensures.bytes (says_true c.named.ensures c.if-not-named.false)))

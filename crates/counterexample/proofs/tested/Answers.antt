@@ -1,21 +1,19 @@
 -- `counterexample::tested` meets its contract: the test is prepared for the rules in force, and the orders are the query's.
 use native.Mathlib.Omega.{arith}
-use mathlib.Core.Path.{subst₂}
-use Rattle.rules_in_force.specs.Rules.{rules_at}
-use Rattle.settled.specs.Ends.{Ends}
+use mathlib.Core.Path.{◌≡◌, ◌∙◌, ap}
+use Rattle.theory.specs.Query.{order_at}
+use Rattle.orders.specs.Orders.{order_of}
 use Rattle.column_masks.proofs.MaskLaws.{order_narrow}
+use Rattle.counterexample.proofs.tested.Goals.{After-order-o}
 use Rattle.counterexample.proofs.tested.Goals as goal
 
-pub test-requires : goal.test-requires
-test-requires c = let q = c.args.query.now in let k = c.prepare-ready.ensures in (
-  omega (arith, k.1, k.2),
-  omega (arith, k.1, k.3),
-  k.4,
-  order_narrow q c.requires.0 _ _ c.order-p.ensures.order (omega (arith, c.requires.1, c.requires.2)),
-  order_narrow q c.requires.0 _ _ c.order-o.ensures.order (omega (arith, c.requires.1, c.requires.2)),
-)
+-- the orders that are read are the query's
+one : (c : After-order-o) → order_of c.order-p.result ≡ order_at c.args.query.now c.args.produced.0
+one c = c.order-p.ensures.order ∙ ap (λ b. order_at b c.args.produced.0) c.bytes-bytes.ensures.bytes
 
-pub returns : goal.returns
-returns c = let a = c.args in
-    subst₂ (λ p o. Ends (rules_at a.query.now a.sets.0) p o c.test.result) c.order-p.ensures.order c.order-o.ensures.order
-    (c.test.ensures (rules_at a.query.now a.sets.0) c.prepare-ready.ensures.0)
+other : (c : After-order-o) → order_of c.order-o.result ≡ order_at c.args.query.now c.args.order.0
+other c = c.order-o.ensures.order ∙ ap (λ b. order_at b c.args.order.0) c.bytes-bytes.ensures.bytes
+
+pub test-requires : goal.test-requires
+test-requires c = let q = c.args.query.now in let checked = c.bytes-bytes.ensures.checked in let here = (goal.at.test-requires c).After-order-o in
+    (omega arith, (order_narrow q checked _ _ (one here) c.requires.0, order_narrow q checked _ _ (other here) c.requires.1))

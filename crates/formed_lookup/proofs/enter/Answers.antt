@@ -1,27 +1,24 @@
--- `formed_lookup::enter` meets its contract: the test that led to each answer picks it.
+-- `formed_lookup::enter` meets its contract: the look-up among the starts that led to each answer picks it.
 use Prim.Native.Nat.{◌<◌, ◌≤◌}
 use native.Mathlib.Omega.{arith}
-use mathlib.Core.Path.{◌≡◌, ◌∙◌, ap}
-use Rattle.theory.specs.Refusals.{handle_refused}
-use Rattle.theory.specs.Table.{produced_in, start_in, refuse, grant_state, enter}
+use mathlib.Core.Path.{◌∙◌}
+use Rattle.std.proofs.lemmas.List.{get_or_read}
+use Rattle.theory.specs.Table.{produced_in, enter}
 use Rattle.theory.proofs.Picks.{picks}
 use Rattle.table.proofs.FormLaws.{form_passed}
-use Rattle.answer_codes.specs.Codes.{answer_code}
 use Rattle.formed_lookup.proofs.enter.Goals as goal
 
-pub returns-then-p-produced : goal.returns-then-p-produced
+pub returns-in_default : goal.returns-in_default
 unfolding enter
-returns-then-p-produced c =
-    let a = c.args in
-    let h : a.order.0 < produced_in a.table.now = omega arith in
-    let e : grant_state a.table.now (start_in a.table.now a.order.0) ≡ enter a.table.now a.order.0 =
-    rw (form_passed c.requires) (search picks) in
-    c.granted.ensures ∙ ap answer_code e
+returns-in_default c =
+    let h : produced_in c.args.table.now ≤ c.args.order.0 = omega (arith, c.starts.ensures.length, c.in_default.ensures.lookup.3) in
+    rw (form_passed c.starts.ensures.formed) (search picks)
 
-pub returns-else-p-produced : goal.returns-else-p-produced
+pub returns : goal.returns
 unfolding enter
-returns-else-p-produced c =
-    let a = c.args in
-    let h : produced_in a.table.now ≤ a.order.0 = omega arith in
-    let e : refuse handle_refused ≡ enter a.table.now a.order.0 = rw (form_passed c.requires) (search picks) in
-    c.refused.ensures ∙ ap answer_code e
+returns c =
+    let found = c.in-Some.ensures.lookup in
+    let h : c.args.order.0 < produced_in c.args.table.now = omega (arith, c.starts.ensures.length, found.3.0) in
+    let start = get_or_read c.starts.result.now _ _ found.3.0 found.1 0 ∙ c.starts.ensures.starts c.args.order.0 h in
+    let granted = rw start at c.granted.ensures in
+    rw (form_passed c.starts.ensures.formed) (search (picks, granted))

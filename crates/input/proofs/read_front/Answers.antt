@@ -21,9 +21,9 @@ slice_range-put_mid a k n xs ys within fits =
 pub loop-n-preserved : goal.loop-n-preserved
 loop-n-preserved g c =
     let from = c.loop-n.n in
-    let more = c.in-Ok.more in
+    let more = c.in_ok-more.more in
     let room = length c.loop-n.buffer - from in
     let within = c.loop-n.invariant.0 in
-    let part = slice_range-put_mid from room more c.loop-n.buffer c.read.new.buf within c.in-Ok.ensures.bound.0 in
+    let part = slice_range-put_mid from room more c.loop-n.buffer c.read.new.buf within c.in_ok-more.ensures.bound.0 in
     let joined = take_split from (from + more) c.loop-n.buffer (put_mid from room c.loop-n.buffer c.read.new.buf) (omega arith) (take-put_mid_below _ _ _ _ _ (le_refl _) within) in
-    (search rules, subst (Consumes _ _) (ap (λ l. take from c.loop-n.buffer ++ l) (sym part) ∙ joined) (Consumes-trans _ _ _ _ _ c.loop-n.invariant.1 c.in-Ok.ensures.bytes.0))
+    (search rules, subst (Consumes _ _) (ap (λ l. take from c.loop-n.buffer ++ l) (sym part) ∙ joined) (Consumes-trans _ _ _ _ _ c.loop-n.invariant.1 c.in_ok-more.ensures.bytes.0))

@@ -1,24 +1,14 @@
--- `item_check::below` meets its contract. The loop's invariant: the answer is that of the columns from i on.
-use native.Mathlib.Omega.{arith}
-use mathlib.Core.Path.{refl, sym, ◌∙◌}
+-- `item_check::below` meets its contract.
+use mathlib.Core.Path.{◌∙◌}
 use lib.Dec.{ltb}
-use lib.ListN.{get_or}
-use borrow.Author.Tests.{lt-ltb, le-ltb}
+use borrow.Author.Rules.{rules}
+use borrow.Author.Tests.{tests}
+use Rattle.std.proofs.lemmas.Iterator.{YieldsList-from_slice}
+use Rattle.std.proofs.lemmas.Iterator.Search.{all_from_yields_List}
 use Rattle.orders.specs.Orders.{order_of}
-use Rattle.query.proofs.Searches.{every_more, every_fails, every_end}
+use Rattle.item_check.proofs.EveryLaws.{every_all}
 use Rattle.item_check.proofs.below.Goals as goal
 
-pub loop-i-init : goal.loop-i-init
-loop-i-init c = refl
-
-pub returns-then-columns-entry : goal.returns-then-columns-entry
-returns-then-columns-entry c = let a = c.args in let l = order_of a.named in let i = c.loop-i.i in
-    sym (c.loop-i.invariant ∙ every_fails (λ x. ltb x a.columns) l i (omega arith) (le-ltb (get_or l i 0) a.columns (omega arith)))
-
-pub loop-i-preserved : goal.loop-i-preserved
-loop-i-preserved c = let a = c.args in let l = order_of a.named in let i = c.loop-i.i in
-    c.loop-i.invariant ∙ every_more (λ x. ltb x a.columns) l i (omega arith) (lt-ltb (get_or l i 0) a.columns (omega arith))
-
 pub returns : goal.returns
-returns c = let a = c.args in
-    sym (c.loop-i.invariant ∙ every_end (λ x. ltb x a.columns) (order_of a.named) c.loop-i.i (omega arith))
+returns c = let l = order_of c.args.named in let n = c.args.columns in
+    all_from_yields_List (λ x. ltb x n) _ _ _ c.all.ensures.ran (YieldsList-from_slice l cc) (λ x b q k. search (rules, tests)) ∙ every_all (λ x. ltb x n) l

@@ -1,25 +1,17 @@
--- `item_check::clear_from` meets its contract. The loop's invariant: the answer is that of the bytes from i on.
-use native.Mathlib.Omega.{arith}
-use mathlib.Core.Path.{refl, sym, ◌∙◌}
+-- `item_check::clear_from` meets its contract.
+use mathlib.Core.Path.{◌∙◌}
 use lib.Dec.{eqb}
-use lib.ListN.{get_or}
-use borrow.Author.Tests.{eq-eqb, ne_eqb}
+use lib.ListN.{drop}
+use borrow.Author.Rules.{rules}
+use borrow.Author.Tests.{tests}
+use Rattle.std.proofs.lemmas.Iterator.{YieldsList-from_slice}
+use Rattle.std.proofs.lemmas.Iterator.Adapters.{YieldsList-from_skip}
+use Rattle.std.proofs.lemmas.Iterator.Search.{all_from_yields_List}
 use Rattle.theory.specs.Limits.{unused_byte}
 use Rattle.orders.specs.Orders.{order_of}
-use Rattle.query.proofs.Searches.{every_more, every_fails, every_end}
+use Rattle.item_check.proofs.EveryLaws.{every_all}
 use Rattle.item_check.proofs.clear_from.Goals as goal
 
-pub loop-i-init : goal.loop-i-init
-loop-i-init c = refl
-
-pub returns-then-entry : goal.returns-then-entry
-returns-then-entry c = let a = c.args in let l = order_of a.body in let i = c.loop-i.i in
-    sym (c.loop-i.invariant ∙ every_fails (λ x. eqb x unused_byte) l i (omega arith) (ne_eqb (get_or l i 0) unused_byte (λ e. c.if-entry.true (cc))))
-
-pub loop-i-preserved : goal.loop-i-preserved
-loop-i-preserved c = let a = c.args in let l = order_of a.body in let i = c.loop-i.i in
-    c.loop-i.invariant ∙ every_more (λ x. eqb x unused_byte) l i (omega arith) (eq-eqb (get_or l i 0) unused_byte (cc))
-
 pub returns : goal.returns
-returns c = let a = c.args in
-    sym (c.loop-i.invariant ∙ every_end (λ x. eqb x unused_byte) (order_of a.body) c.loop-i.i (omega arith))
+returns c = let l = order_of c.args.body in let n = c.args.used in
+    all_from_yields_List (λ x. eqb x unused_byte) _ _ _ c.all.ensures.ran (YieldsList-from_skip n (YieldsList-from_slice l cc) cc) (λ x b q k. search (rules, tests)) ∙ every_all (λ x. eqb x unused_byte) (drop n l)

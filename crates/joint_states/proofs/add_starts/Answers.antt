@@ -1,32 +1,54 @@
 -- `joint_states::add_starts` meets its contract. The loop's invariant: the joint states of the first p produced orders are put in.
-use Prim.Native.Nat.{◌<◌}
-use mathlib.Core.Path.{sym, ◌∙◌, subst, ◌≡◌}
-use Rattle.theory.specs.Limits.{max_joint_states}
-use Rattle.joint_states.proofs.TogetherLaws.{start_places, joint_number_lem, start_reached}
-use Rattle.joint_states.proofs.SetLaws.{added_none, added_next}
+use Prim.Native.Nat.{◌<◌, ◌/◌}
 use native.Mathlib.Omega.{arith}
+use mathlib.Core.Path.{◌≡◌, sym, ◌∙◌, ap₂, subst}
+use mathlib.Core.Bool.{false}
+use mathlib.Core.List.{[], ◌∷◌}
+use lib.ListN.{length}
+use Rattle.theory.specs.Limits.{max_joint_states}
 use Rattle.theory.specs.Table.{produced_in}
-use Rattle.joint_states.specs.JointStates.{start_joint_state}
-use borrow.Author.Rules.{rules}
+use Rattle.joint_states.specs.JointStates.{joint_number, start_joint_state, Added}
+use Rattle.joint_states.proofs.TogetherLaws.{joint_number_lem, start_reached}
+use Rattle.joint_states.proofs.SetLaws.{added_none, added_next, added_put}
+use Rattle.joint_states.proofs.add_starts.Goals.{After-joint_state}
 use Rattle.joint_states.proofs.add_starts.Goals as goal
 
 pub loop-p-init : goal.loop-p-init
-loop-p-init c = (omega arith, search rules, search rules, added_none _)
+loop-p-init c = added_none _
 
-pub bounds-ours-p : goal.bounds-ours-p
-bounds-ours-p c = (start_places c.requires.0 c.loop-p.p (omega arith)).0
+-- p is a produced order of both tables
+produced : (c : After-joint_state) → c.loop-p.p < produced_in c.args.tables.now.ours
+produced c = let e : length c.starts-ours.result.now ≡ produced_in c.args.tables.now.ours = rw c.ours.ensures.table at c.starts-ours.ensures.length in omega arith
 
-pub bounds-theirs-p : goal.bounds-theirs-p
-bounds-theirs-p c = (start_places c.requires.0 c.loop-p.p (omega arith)).1
+-- the joint state of its starts
+started : (c : After-joint_state) → let t = c.args.tables.now in c.joint_state.result ≡ start_joint_state t.ours t.theirs c.loop-p.p
+started c =
+    let p = c.loop-p.p in
+    let h = produced c in
+    let comparable = c.ours.ensures.comparable in
+    c.joint_state.ensures
+    ∙ ap₂ joint_number ((rw c.ours.ensures.table at c.starts-ours.ensures.starts) p h) ((rw c.theirs.ensures.table at c.starts-theirs.ensures.starts) p (omega (arith, comparable.produced)))
 
-pub add-count-requires : goal.add-count-requires
-add-count-requires c = (search rules, subst (λ n. n < max_joint_states) (sym c.joint_state.ensures) (joint_number_lem c.requires.0 _ (start_reached c.requires.0 c.loop-p.p (omega arith))))
+-- it has its place in the set
+within : (c : After-joint_state) → c.joint_state.result / 8 < length c.loop-p.reached
+within c =
+    let comparable = c.ours.ensures.comparable in
+    let h : c.joint_state.result < max_joint_states =
+    subst (λ n. n < max_joint_states) (sym (started c)) (joint_number_lem comparable _ (start_reached comparable c.loop-p.p (produced c))) in
+    omega (arith, c.loop-p.invariant.long)
+
+pub add-requires : goal.add-requires
+add-requires c = within (goal.at.add-requires c).After-joint_state
 
 pub loop-p-preserved : goal.loop-p-preserved
-loop-p-preserved c = let l = c.loop-p in let a = c.args in let d = c.add-count.ensures in
-    (omega arith, l.invariant.1, d.long ∙ l.invariant.2, added_next (start_joint_state a.ours.now a.theirs.now) l.p l.invariant.3 c.joint_state.ensures d)
+loop-p-preserved c =
+    let k = (goal.at.loop-p-preserved c).After-joint_state in
+    let t = c.args.tables.now in
+    added_next (start_joint_state t.ours t.theirs) c.loop-p.p c.loop-p.invariant (started k)
+    (subst (λ m. Added 0 (c.joint_state.result ∷ []) c.loop-p.reached m false) (sym c.add.ensures.0) (added_put c.loop-p.reached c.joint_state.result (within k)))
 
-pub returns : goal.returns
-returns c = let l = c.loop-p in
-    let end : l.p ≡ produced_in c.args.ours.now = omega arith in
-    rw end at l.invariant.3
+pub returns-clause-added : goal.returns-clause-added
+returns-clause-added c =
+    let starts : length c.starts-ours.result.now ≡ produced_in c.args.tables.now.ours = rw c.ours.ensures.table at c.starts-ours.ensures.length in
+    let end : c.loop-p.p ≡ produced_in c.args.tables.now.ours = omega arith in
+    rw end at c.loop-p.invariant

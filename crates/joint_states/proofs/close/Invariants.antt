@@ -6,8 +6,11 @@ use Rattle.bit_sets.specs.BitSets.{in_bits}
 use Rattle.joint_states.specs.JointStates.{JointWalking, joint_state_count}
 use Rattle.joint_states.proofs.close.Given as goal
 
-abbrev pub invariant-loop-added : goal.invariant-loop-added
-invariant-loop-added l = JointWalking l.ours l.theirs l.reached × ((j : ℕ) → in_bits l.initial.reached j ≡ true → in_bits l.reached j ≡ true)
+abbrev pub invariant-loop : goal.invariant-loop
+invariant-loop l = record {
+  walking : JointWalking l.tables.ours l.tables.theirs l.reached;
+  keeps : (j : ℕ) → in_bits l.initial.reached j ≡ true → in_bits l.reached j ≡ true;
+}
 
-abbrev pub decreases-loop-added : goal.decreases-loop-added
-decreases-loop-added l = max_joint_states - joint_state_count l.reached
+abbrev pub decreases-loop : goal.decreases-loop
+decreases-loop l = max_joint_states - joint_state_count l.reached

@@ -1,19 +1,9 @@
 -- `lookup::row_of` meets its contract: where nothing is refused the row is there.
-use mathlib.Core.Path.{sym, ◌∙◌}
-use Rattle.theory.specs.Table.{row}
-use Rattle.theory.proofs.Picks.{picks}
-use Rattle.read_codes.proofs.ReadLaws.{read_granted}
+use mathlib.Core.Path.{◌∙◌, ap}
+use Rattle.theory.specs.Table.{row_in, row}
 use Rattle.lookup.proofs.row_of.Goals as goal
 
-pub returns-then-refused-ne-PASSED : goal.returns-then-refused-ne-PASSED
+pub returns-clause-row : goal.returns-clause-row
 unfolding row
-returns-then-refused-ne-PASSED c = (rw (← c.read_refusal-refused.ensures) (search picks), c.read_refusal-refused.ensures)
-
-pub successors-requires : goal.successors-requires
-successors-requires c = read_granted _ _ (sym c.read_refusal-refused.ensures ∙ c.if-refused-ne-PASSED.false)
-
-pub returns : goal.returns
-unfolding row
-returns c =
-    let r = c.read_refusal-refused.ensures in
-    (rw (← r) (search (picks, c.successors.ensures.0)), r)
+returns-clause-row c =
+    rw (← c.in_ok-formed.ensures.refusal) (c.successors.ensures.0 ∙ ap (λ t. row_in t c.args.state.0) c.in_ok-formed.ensures.bytes)

@@ -1,5 +1,5 @@
 -- `open_sets::add` meets its contract: the set is in force and adds nothing, or it adds what is open behind it, and itself where the word is another.
-use Prim.Native.Nat.{◌*◌, ◌%◌, ◌^◌}
+use Prim.Native.Nat.{◌+◌, ◌*◌, ◌%◌, ◌^◌}
 use native.Mathlib.Nat.{one-mul}
 use native.Mathlib.Omega.{arith}
 use mathlib.Core.Path.{◌≡◌, ◌∙◌}
@@ -12,21 +12,21 @@ use Rattle.open_sets.proofs.OpenLaws.{gathered_skip}
 use Rattle.open_sets.proofs.OpenPairs.{looked_same, looked_other}
 use Rattle.open_sets.proofs.add.Goals as goal
 
-pub returns-then-m-s-eq1 : goal.returns-then-m-s-eq1
-returns-then-m-s-eq1 c =
+pub returns-then-pair-s-eq1 : goal.returns-then-pair-s-eq1
+returns-then-pair-s-eq1 c =
     let a = c.args in
-    gathered_skip a.bits a.sets (take held_part a.work.now) (next_open a.sets a.work.now a.p a.m) a.p a.m a.s a.gathered (eq-eqb _ 1 c.if-m-s-eq1.true) c.requires.0
+    gathered_skip (a.sizes.produced + a.sizes.tested) a.sizes.sets (take held_part a.work.now) (next_open a.sizes.sets a.work.now a.pair.order a.pair.choice) a.pair.order a.pair.choice a.s a.gathered (eq-eqb _ 1 c.if-pair-s-eq1.true) c.requires.0
 
 pub returns-then-cut_word : goal.returns-then-cut_word
 returns-then-cut_word c =
     let a = c.args in
-    looked_same a.bits a.sets a.p a.m a.s a.gathered a.work.now c.with_set-next.ensures.0 c.open_in.ensures
-    c.cut_word.ensures.0 c.cut_word-2.ensures.0 (ne_eqb _ 1 c.if-m-s-eq1.false) c.requires.6 c.requires.1 c.requires.0 c.if-cut_word.true
+    looked_same (a.sizes.produced + a.sizes.tested) a.sizes.sets a.pair.order a.pair.choice a.s a.gathered a.work.now c.with_set-next.ensures.order c.with_set-next.ensures.choice.0 c.open_in.ensures
+    c.cut_word.ensures.0 c.cut_word-2.ensures.0 (ne_eqb _ 1 c.if-pair-s-eq1.false) c.requires.4 c.requires.1 c.requires.0 c.if-cut_word.true
 
 pub returns : goal.returns
 returns c =
     let a = c.args in
     let bit : (1 * 2 ^ a.s) % 2 ^ 64 ≡ 2 ^ a.s = shl_exact 1 a.s 64 (omega arith) (omega arith) ∙ one-mul _ in
     rw bit
-    (looked_other a.bits a.sets a.p a.m a.s a.gathered a.work.now c.with_set-next.ensures.0 c.open_in.ensures
-    c.cut_word.ensures.0 c.cut_word-2.ensures.0 (ne_eqb _ 1 c.if-m-s-eq1.false) c.requires.6 c.requires.1 c.requires.0 c.if-cut_word.false)
+    (looked_other (a.sizes.produced + a.sizes.tested) a.sizes.sets a.pair.order a.pair.choice a.s a.gathered a.work.now c.with_set-next.ensures.order c.with_set-next.ensures.choice.0 c.open_in.ensures
+    c.cut_word.ensures.0 c.cut_word-2.ensures.0 (ne_eqb _ 1 c.if-pair-s-eq1.false) c.requires.4 c.requires.1 c.requires.0 c.if-cut_word.false)

@@ -1,13 +1,13 @@
--- `order_tables::order_table_replay` meets its contract: the replay's answer as one number.
+-- `order_tables::order_table_replay` meets its contract: the answer as one number.
 use lib.ListN.{length}
 use Rattle.order_tables.proofs.AnswerCodes.{build_short, build_number}
 use Rattle.order_tables.proofs.order_table_replay.Goals as goal
 
-pub coded-requires : goal.coded-requires
-coded-requires c = let a = c.args in
-    build_short a.query.now (length a.scratch.now) (length a.output.now) c.replay-replayed.ensures.value
+pub answered-requires : goal.answered-requires
+answered-requires c = let a = c.args in build_short a.query.now (length a.scratch.now) (length a.output.now) c.replay.ensures.value
 
 pub returns : goal.returns
-returns c = let a = c.args in
-    let e = c.replay-replayed.ensures in
-    record { value = build_number a.query.now (length a.scratch.now) (length a.output.now) e.value c.coded.ensures; output_after = e.output_after; scratch_after = e.scratch_after; lookups_after = e.lookups_after; modelled = e.modelled }
+returns c =
+    let a = c.args in
+    let e = c.replay.ensures in
+    record { value = build_number a.query.now (length a.scratch.now) (length a.output.now) e.value c.answered.ensures; output_after = e.output_after; scratch_after = e.scratch_after; lookups_after = e.lookups_after; modelled = e.modelled }

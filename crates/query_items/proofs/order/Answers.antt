@@ -1,16 +1,20 @@
 -- `query_items::order` meets its contract: the query's refusal, 10, or the value.
-use mathlib.Core.Path.{sym, ◌∙◌}
-use Rattle.query_items.proofs.ItemLaws.{query_refuses, item_missing, item_there}
 use native.Mathlib.Omega.{arith}
+use mathlib.Core.Path.{sym, ◌∙◌, ap}
+use Rattle.theory.specs.Table.{grant}
+use Rattle.numbers.proofs.RefusalLaws.{refused, passed_on_answer}
+use Rattle.query_items.proofs.ItemLaws.{query_refuses, item_missing, item_there, order_value_fits}
 use Rattle.query_items.proofs.order.Goals as goal
 
-pub returns-then-refusal-ne-PASSED : goal.returns-then-refusal-ne-PASSED
-returns-then-refusal-ne-PASSED c = c.item_refused.ensures ∙ query_refuses _ _ _ _ c.check-refusal.ensures c.if-refusal-ne-PASSED.true
+pub returns-in_err-check-clause-answer : goal.returns-in_err-check-clause-answer
+returns-in_err-check-clause-answer c =
+    passed_on_answer c.from_residual.result _ c.from_residual.ensures.1 ∙ query_refuses _ _ _ _ c.in_err-check.ensures.refusal (refused _)
 
-pub returns-then-order_count-i : goal.returns-then-order_count-i
-returns-then-order_count-i c =
-    c.item_refused-then-order_count-i.ensures ∙ item_missing _ _ _ _ (sym c.if-refusal-ne-PASSED.false ∙ c.check-refusal.ensures) (omega arith)
+pub returns-then-order_count-i-clause-answer : goal.returns-then-order_count-i-clause-answer
+returns-then-order_count-i-clause-answer c = item_missing _ _ _ _ c.in_ok-check.ensures.refusal (omega arith)
 
-pub returns : goal.returns
-returns c =
-    c.order_value.ensures ∙ item_there _ _ _ _ (sym c.if-refusal-ne-PASSED.false ∙ c.check-refusal.ensures) (omega arith)
+pub returns-clause-answer : goal.returns-clause-answer
+returns-clause-answer c = ap grant c.order_value.ensures ∙ item_there _ _ _ _ c.in_ok-check.ensures.refusal (omega arith)
+
+pub returns-clause-small : goal.returns-clause-small
+returns-clause-small c = omega (arith, order_value_fits c.args.query.now c.args.i.0 (sym c.in_ok-check.ensures.refusal) (omega arith))

@@ -1,31 +1,31 @@
 -- `query_listing::write_listing` meets its contract: the outcome of a build with room for every table is the listing's, and it is a refusal or a table.
-use mathlib.Core.Path.{sym}
+use mathlib.Core.Path.{sym, ◌∙◌, ap}
 use native.Mathlib.Omega.{arith}
 use lib.Seq.{length-take-le}
-use Rattle.query_listing.proofs.TableLaws.{refused_listing, table_listing_lem, printed}
+use Rattle.theory.specs.Listing.{refused_line, table_listing}
+use Rattle.query_listing.proofs.TableLaws.{Shown, refused_listing, table_listing_lem, printed}
+use Rattle.query_listing.proofs.write_listing.Goals.{In-Ok}
 use Rattle.query_listing.proofs.write_listing.Goals as goal
 
-pub returns-then-refusal-ne-PASSED : goal.returns-then-refusal-ne-PASSED
-returns-then-refusal-ne-PASSED c = let b = c.build-built in
-    printed (refused_listing c.args.query.now c.args.work.now c.requires b.ensures.value c.if-refusal-ne-PASSED.true)
-    (omega arith) c.refused.ensures
+-- what is known of the table that was built
+shown : (c : In-Ok) → Shown c.args.query.now c.build.new.output c.in-Ok.length
+shown c =
+    let e = c.in-Ok.ensures in table_listing_lem c.args.query.now c.args.work.now c.requires e.value e.output_after
 
 pub slice_bounds-table-end : goal.slice_bounds-table-end
-slice_bounds-table-end c = let b = c.build-built in
-    let t = table_listing_lem c.args.query.now c.args.work.now c.requires b.ensures.value b.ensures.output_after c.if-refusal-ne-PASSED.false in
-    t.fits
+slice_bounds-table-end c = (shown (goal.at.slice_bounds-table-end c).In-Ok).fits
 
-pub slice_bounds-list-end : goal.slice_bounds-list-end
-slice_bounds-list-end c = let b = c.build-built in
-    let t = table_listing_lem c.args.query.now c.args.work.now c.requires b.ensures.value b.ensures.output_after c.if-refusal-ne-PASSED.false in
-    sym (length-take-le b.result.length _ t.fits)
+pub slice_bounds-new-end : goal.slice_bounds-new-end
+slice_bounds-new-end c =
+    sym (length-take-le c.in-Ok.length _ (shown (goal.at.slice_bounds-new-end c).In-Ok).fits)
 
-pub list-requires : goal.list-requires
-list-requires c = let b = c.build-built in
-    let t = table_listing_lem c.args.query.now c.args.work.now c.requires b.ensures.value b.ensures.output_after c.if-refusal-ne-PASSED.false in
-    (t.form, omega arith)
+pub new-requires : goal.new-requires
+new-requires c = (shown (goal.at.new-requires c).In-Ok).form
 
-pub returns : goal.returns
-returns c = let b = c.build-built in
-    let t = table_listing_lem c.args.query.now c.args.work.now c.requires b.ensures.value b.ensures.output_after c.if-refusal-ne-PASSED.false in
-    printed t.same (omega arith) c.list.ensures
+pub returns-in-Ok : goal.returns-in-Ok
+returns-in-Ok c =
+    printed (ap table_listing c.new.ensures ∙ (shown (goal.at.returns-in-Ok c).In-Ok).same) (omega arith) c.list.ensures
+
+pub returns-in-Err : goal.returns-in-Err
+returns-in-Err c =
+    printed (ap refused_line c.from.ensures ∙ refused_listing c.args.query.now c.args.work.now c.requires c.in-Err.refusal c.in-Err.ensures.value) (omega arith) c.refused.ensures

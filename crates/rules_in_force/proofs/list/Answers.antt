@@ -3,40 +3,35 @@ use native.Mathlib.Nat.{zero-add}
 use native.Mathlib.Omega.{arith}
 use mathlib.Core.Path.{◌≡◌, sym, ◌∙◌, ap, subst}
 use mathlib.Core.List.{map, flatten}
-use Rattle.theory.proofs.PassedLaws.{query_passed}
 use Rattle.theory.specs.Tests.{up_from}
 use Rattle.theory.specs.Query.{dependency_count}
+use Rattle.theory.proofs.PassedLaws.{query_passed}
 use Rattle.theory.proofs.RangeLaws.{flatten_more}
-use Rattle.arrows.specs.Arrows.{Written}
-use Rattle.arrows.proofs.ArrowLaws.{written_none}
+use Rattle.arrows.specs.Arrows.{Written, no_arrow}
 use Rattle.rules_in_force.specs.Rules.{arrows_at}
 use Rattle.rules_in_force.proofs.RuleLaws.{few_at, arrows_in_force}
+use Rattle.rules_in_force.proofs.list.Goals.{After-dependencies-i-end}
 use Rattle.rules_in_force.proofs.list.Goals as goal
+
+-- as many dependencies are read as the query has
+many : (c : After-dependencies-i-end) → c.dependencies-i-end.result ≡ dependency_count c.args.query.now
+many c = c.dependencies-i-end.ensures ∙ ap dependency_count c.bytes.ensures.bytes
 
 pub loop-i-init : goal.loop-i-init
 unfolding flatten
-loop-i-init c = (c.requires.1, c.requires.2, omega arith, omega arith, written_none _ _)
+loop-i-init c = rw c.new-arrows.ensures (omega arith, no_arrow)
 
-pub add-n-requires : goal.add-n-requires
-add-n-requires c = let at = c.loop-i in let p = query_passed c.args.query.now c.requires.0 in
-    (c.requires.0, omega arith, omega (arith, at.invariant.0, at.invariant.3, p.sized.few_dependencies), omega (arith, at.invariant.1, at.invariant.3, p.sized.few_dependencies))
+pub add-requires : goal.add-requires
+add-requires c = let p = query_passed c.args.query.now c.bytes.ensures.checked in let e = many (goal.at.add-requires c).After-dependencies-i-end in
+    (omega arith, omega (arith, c.loop-i.invariant.0, p.sized.few_dependencies))
 
 pub loop-i-preserved : goal.loop-i-preserved
-loop-i-preserved c = let at = c.loop-i in let a = c.args in let e = c.add-n.ensures in (
-  e.left_long ∙ at.invariant.0,
-  e.right_long ∙ at.invariant.1,
-  omega arith,
-  omega (arith, e.few, few_at a.only a.query.now a.x at.i, at.invariant.3),
-  rw (flatten_more (arrows_at a.only a.query.now a.x) 0 at.i at.i (sym (zero-add at.i))) (e.written _ at.invariant.4),
+loop-i-preserved c = let at = c.loop-i in let a = c.args in let e = c.add.ensures in (
+  omega (arith, e.few, few_at a.only a.query.now a.x at.i, at.invariant.0),
+  rw (flatten_more (arrows_at a.only a.query.now a.x) 0 at.i at.i (sym (zero-add at.i))) (e.written _ at.invariant.1),
 )
 
 pub returns : goal.returns
-returns c = let b = c.args.query.now in let at = c.loop-i in
-    let p = query_passed b c.requires.0 in
-    let end : at.i ≡ dependency_count b = omega arith in
-    record {
-      left_long = at.invariant.0;
-      right_long = at.invariant.1;
-      few = omega (arith, at.invariant.3, p.sized.few_dependencies);
-      written = subst (λ l. Written l at.left at.right at.n) (ap (λ i. flatten (map (arrows_at c.args.only b c.args.x) (up_from 0 i))) end ∙ arrows_in_force c.args.only b c.args.x p) at.invariant.4;
-    }
+returns c = let a = c.args in let b = a.query.now in let at = c.loop-i in
+    let end : at.i ≡ dependency_count b = omega (arith, many (goal.at.returns c).After-dependencies-i-end) in
+    subst (λ l. Written l at.arrows.items) (ap (λ i. flatten (map (arrows_at a.only b a.x) (up_from 0 i))) end ∙ arrows_in_force a.only b a.x (query_passed b c.bytes.ensures.checked)) at.invariant.1

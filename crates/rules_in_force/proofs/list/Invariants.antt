@@ -1,5 +1,4 @@
-use Prim.Native.Nat.{◌*◌, ◌-◌, ◌≤◌}
-use mathlib.Core.Path.{◌≡◌}
+use Prim.Native.Nat.{◌*◌, ◌≤◌}
 use mathlib.Core.List.{map, flatten}
 use lib.ListN.{length}
 use Rattle.theory.specs.Tests.{up_from}
@@ -8,7 +7,4 @@ use Rattle.rules_in_force.specs.Rules.{arrows_at}
 use Rattle.rules_in_force.proofs.list.Given as goal
 
 abbrev pub invariant-loop-i : goal.invariant-loop-i
-invariant-loop-i l = (length l.left ≡ 32) × (length l.right ≡ 32) × (l.i ≤ l.m) × (l.n ≤ 2 * l.i) × Written (flatten (map (arrows_at l.only l.query l.x) (up_from 0 l.i))) l.left l.right l.n
-
-abbrev pub decreases-loop-i : goal.decreases-loop-i
-decreases-loop-i l = l.m - l.i
+invariant-loop-i l = (length l.arrows.items ≤ 2 * l.i) × Written (flatten (map (arrows_at l.only l.query l.x) (up_from 0 l.i))) l.arrows.items

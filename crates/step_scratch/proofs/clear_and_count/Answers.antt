@@ -1,16 +1,12 @@
 -- `step_scratch::clear_and_count` meets its contract: the first bytes, lent and cleared, are the zeroed part.
-use mathlib.Core.Path.{sym, ◌∙◌, ap}
+use mathlib.Core.Path.{◌∙◌, ap}
 use mathlib.Core.List.{◌++◌}
 use lib.ListN.{drop}
-use lib.Seq.{length-take-le}
 use Rattle.theory.specs.Limits.{scratch_length}
 use Rattle.theory.specs.Placed.{placed}
 use Rattle.theory.specs.Steps.{count_bytes}
 use Rattle.theory.proofs.ClearLaws.{zeroed_part}
 use Rattle.step_scratch.proofs.clear_and_count.Goals as goal
-
-pub slice_bounds-clear-end-2 : goal.slice_bounds-clear-end-2
-slice_bounds-clear-end-2 c = sym (length-take-le scratch_length c.args.scratch.now c.requires)
 
 pub returns : goal.returns
 returns c =

@@ -1,32 +1,25 @@
 -- `steps::begin` meets its contract.
-use mathlib.Core.Path.{◌≡◌, sym, ◌∙◌, subst}
+use mathlib.Core.Path.{sym, ◌∙◌, subst}
 use mathlib.Core.Logic.{◌≢◌}
-use lib.ListN.{length}
 use Rattle.theory.specs.Refusals.{passed}
-use Rattle.theory.specs.Steps.{begin_refusal}
 use Rattle.theory.proofs.StepLaws.{begin_lent, begun_kept, begun_fresh}
-use Rattle.steps.proofs.begin.Goals.{Else-refusal-ne-PASSED}
+use Rattle.numbers.proofs.RefusalLaws.{refused, passed_on}
 use Rattle.steps.proofs.begin.Goals as goal
 
-passes : (c : Else-refusal-ne-PASSED) → begin_refusal c.args.query.now (length c.args.scratch.now) ≡ passed
-passes c = sym c.lent_refusal-refusal.ensures ∙ c.if-refusal-ne-PASSED.false
-
-pub returns-then-refusal-ne-PASSED : goal.returns-then-refusal-ne-PASSED
-returns-then-refusal-ne-PASSED c =
+pub returns-in_err-check_lent : goal.returns-in_err-check_lent
+returns-in_err-check_lent c =
     let a = c.args in
-    let e = c.lent_refusal-refusal.ensures in
+    let e = c.in_err-check_lent.ensures.refusal in
     record {
-      value = e;
-      scratch_after = sym (begun_kept a.query.now a.scratch.now (subst (λ k. k ≢ passed) e c.if-refusal-ne-PASSED.true));
+      value = passed_on c.from_residual.result _ c.from_residual.ensures.1 ∙ e;
+      scratch_after = sym (begun_kept a.query.now a.scratch.now (subst (λ k. k ≢ passed) e (refused c.in_err-check_lent.field-0.0)));
     }
 
 pub clear_and_count-requires : goal.clear_and_count-requires
-clear_and_count-requires c = (begin_lent c.args.query.now c.args.scratch.now (passes (goal.at.clear_and_count-requires c).Else-refusal-ne-PASSED)).long
+clear_and_count-requires c = (begin_lent c.args.query.now c.args.scratch.now (sym c.in_ok-check_lent.ensures.refusal)).long
 
 pub returns : goal.returns
 returns c =
     let a = c.args in
-    record {
-      value = sym (passes (goal.at.returns c).Else-refusal-ne-PASSED);
-      scratch_after = c.clear_and_count.ensures ∙ sym (begun_fresh a.query.now a.scratch.now (passes (goal.at.returns c).Else-refusal-ne-PASSED));
-    }
+    let e = c.in_ok-check_lent.ensures.refusal in
+    record { value = e; scratch_after = c.clear_and_count.ensures ∙ sym (begun_fresh a.query.now a.scratch.now (sym e)) }

@@ -1,59 +1,45 @@
 -- `table_rows::number` meets its contract: the open sets of all pairs, then the starts, the walk, then the held words.
-use Prim.Native.Nat.{◌+◌, ◌≤◌}
+use Prim.Native.Nat.{ℕ, ◌+◌, ◌<◌, ◌≤◌}
 use native.Mathlib.Omega.{arith}
 use mathlib.Core.Path.{◌≡◌, sym, ◌∙◌, ap, subst}
-use lib.ListN.{length, take}
-use borrow.Author.Rules.{rules}
-use Rattle.theory.specs.Scratch.{held_part, work_length}
-use Rattle.open_sets.specs.Open.{Opened}
-use Rattle.table_rows.specs.Rows.{RowsFound}
-use Rattle.table_rows.specs.Walk.{RowsVisited, Walked, sizes_given}
+use lib.ListN.{length}
+use Rattle.theory.specs.Limits.{max_states}
+use Rattle.theory.specs.Scratch.{work_length}
+use Rattle.table_rows.specs.Rows.{RowsStored}
+use Rattle.table_rows.specs.Walk.{states_of, RowsVisited, sizes_of}
 use Rattle.table_rows.proofs.HeldLaws.{holding_length}
 use Rattle.table_rows.proofs.FoundLaws.{rows_over, rows_found}
-use Rattle.table_rows.proofs.number.Goals.{After-walk_rows-count}
 use Rattle.table_rows.proofs.number.Goals as goal
 
--- behind the walk: it went over the words that were given, and the scratch keeps its length, which is enough
-module _ (c : After-walk_rows-count) where
-  walk : let a = c.args in let r = c.walk_rows-count in Walked (sizes_given a.produced a.tested a.sets) (take held_part a.work.now) r.new.work r.result r.result
-  walk =
-      let a = c.args in let r = c.walk_rows-count in
-      subst (λ w. Walked (sizes_given a.produced a.tested a.sets) w r.new.work r.result r.result) (c.number_starts-begun.ensures.0.first ∙ c.open_pairs.ensures.1) r.ensures.0
-
-  kept : length c.walk_rows-count.new.work ≡ length c.args.work.now
-  kept = c.walk_rows-count.ensures.1 ∙ c.number_starts-begun.ensures.1 ∙ c.open_pairs.ensures.2
-
-  long : work_length ≤ length c.walk_rows-count.new.work
-  long = omega (arith, kept, c.requires.4)
-
-pub number_starts-begun-requires : goal.number_starts-begun-requires
-number_starts-begun-requires c =
+pub returns-in_err-begun : goal.returns-in_err-begun
+returns-in_err-begun c =
     let a = c.args in
-    let o = c.open_pairs in
-    (subst (λ w. Opened a.produced (a.produced + a.tested) a.sets w o.new.work) (sym o.ensures.1) o.ensures.0, search rules, search rules, search rules, omega (arith, o.ensures.2))
+    let z = sizes_of a.sizes in
+    let o = c.open_pairs.ensures in
+    let over = subst (λ w. max_states < length (states_of z w)) o.1 c.in_err-begun.ensures.0 in
+    rw c.from_residual.ensures (rows_over z a.work.now a.sizes.few_produced a.sizes.few_sets over, c.number_starts.ensures.1 ∙ o.2)
 
-pub walk_rows-count-requires : goal.walk_rows-count-requires
-walk_rows-count-requires c =
+pub returns-in_err-count : goal.returns-in_err-count
+returns-in_err-count c =
     let a = c.args in
-    let b = c.number_starts-begun in
-    let v = b.ensures.0 in
-    (subst (λ w. RowsVisited (sizes_given a.produced a.tested a.sets) w b.new.work b.result 0) (sym v.first) v, search rules, search rules, search rules, omega (arith, c.open_pairs.ensures.2, b.ensures.1))
-
-pub returns-then-count-gt-MAX_STATES : goal.returns-then-count-gt-MAX_STATES
-returns-then-count-gt-MAX_STATES c =
-    let a = c.args in
-    let r = c.walk_rows-count in
-    (rows_over (sizes_given a.produced a.tested a.sets) a.work.now r.new.work r.result c.requires.1 c.requires.3 (walk (goal.at.returns-then-count-gt-MAX_STATES c).After-walk_rows-count) (omega arith), kept (goal.at.returns-then-count-gt-MAX_STATES c).After-walk_rows-count)
-
-pub hold_rows-requires : goal.hold_rows-requires
-hold_rows-requires c = ((c.walk_rows-count.ensures.0.fits (omega arith)).pairs, search rules, search rules, long (goal.at.hold_rows-requires c).After-walk_rows-count)
+    let z = sizes_of a.sizes in
+    let o = c.open_pairs.ensures in
+    let b = c.in_ok-begun.ensures in
+    let over = subst (λ w. max_states < length (states_of z w)) (b.0.1.first ∙ o.1) c.in_err-count.ensures.0 in
+    rw c.from_residual-in_err-count.ensures (rows_over z a.work.now a.sizes.few_produced a.sizes.few_sets over, c.walk_rows.ensures.1 ∙ b.1 ∙ o.2)
 
 pub returns : goal.returns
 returns c =
     let a = c.args in
-    let r = c.walk_rows-count in
+    let z = sizes_of a.sizes in
+    let bits : ℕ = a.sizes.produced + a.sizes.tested in
+    let o = c.open_pairs.ensures in
+    let r = c.walk_rows in
+    let n = c.in_ok-count.count in
+    let visited = subst (λ w. RowsVisited z w r.new.work n n) (c.in_ok-begun.ensures.0.1.first ∙ o.1) c.in_ok-count.ensures.0 in
+    let kept : length r.new.work ≡ length a.work.now = r.ensures.1 ∙ c.number_starts.ensures.1 ∙ o.2 in
+    let long : work_length ≤ length r.new.work = omega (arith, kept, c.requires.1) in
     let h = c.hold_rows.ensures in (
-      subst (λ d. RowsFound (sizes_given a.produced a.tested a.sets) a.work.now d r.result) (sym h)
-          (rows_found (sizes_given a.produced a.tested a.sets) a.work.now r.new.work r.result c.requires.1 c.requires.3 (walk (goal.at.returns c).After-walk_rows-count) (omega arith) (long (goal.at.returns c).After-walk_rows-count)),
-      ap length h ∙ holding_length (a.produced + a.tested) a.sets r.new.work r.result (long (goal.at.returns c).After-walk_rows-count) (omega arith) ∙ kept (goal.at.returns c).After-walk_rows-count,
+      subst (λ d. RowsStored z a.work.now d n) (sym h) (rows_found z a.work.now a.sizes.few_produced a.sizes.few_sets r.new.work n visited long),
+      ap length h ∙ holding_length bits z.sets r.new.work n long visited.pairs.few ∙ kept,
     )

@@ -12,6 +12,7 @@ use Rattle.two_rows.proofs.write.Goals as goal
 pub returns : goal.returns
 returns c =
     let a = c.args in
+    let stop = a.stop in
     c.write_row-2.ensures
-    ∙ ap (placed _ (row_by (not a.ascends) a.settled a.class a.n)) c.write_row.ensures
-    ∙ placed_more 0 _ (row_by a.ascends a.settled a.class a.n) (row_by (not a.ascends) a.settled a.class a.n) a.rows.now (omega (arith, entry_count (written_value a.ascends a.settled a.class) 0 a.n)) (omega arith)
+    ∙ ap (placed _ (row_by (not stop.ascends) stop.settled stop.class a.n)) c.write_row.ensures
+    ∙ placed_more 0 _ (row_by stop.ascends stop.settled stop.class a.n) (row_by (not stop.ascends) stop.settled stop.class a.n) a.rows.now (omega (arith, entry_count (written_value stop.ascends stop) 0 a.n)) (omega arith)

@@ -1,6 +1,5 @@
 -- `builder::write::write` meets its contract: three writes, each directly behind the one before.
 use Prim.Native.Nat.{◌+◌, ◌*◌}
-use native.Mathlib.Nat.{mul-le-mul}
 use native.Mathlib.Omega.{arith}
 use mathlib.Core.Path.{◌∙◌, ap}
 use mathlib.Core.List.{◌∷◌}
@@ -10,19 +9,17 @@ use Rattle.theory.proofs.PlacedLaws.{placed_row, placed_three}
 use Rattle.builder.specs.Written.{stored_table}
 use Rattle.builder.proofs.write.write.Goals as goal
 
-pub part-requires-2 : goal.part-requires-2
-part-requires-2 c = omega (arith, mul-le-mul c.requires.0 c.requires.2)
-
 pub returns : goal.returns
 unfolding stored_table
 returns c = let third = c.copy-2 in let words = c.part-words in
-    let second = c.copy in let next = c.part-2 in
-    let first = c.write_front in let starts = c.part in
+    let second = c.copy in let next = c.part in
+    let first = c.write_front in let starts = c.part-starts in
     let a = c.args in
-    let i = table_sizes + a.p in
-    let j = i + a.q * a.s in
+    let z = a.sizes in
+    let i = table_sizes + z.produced in
+    let j = i + a.q * z.sets in
     let d = a.output.now in
-    let head = a.q ∷ a.p ∷ a.t ∷ a.s ∷ starts.result.now in
+    let head = a.q ∷ z.produced ∷ z.tested ∷ z.sets ∷ starts.result.now in
     third.ensures
     ∙ placed_row second.new.out j words.result.now
     ∙ ap (placed j words.result.now) (second.ensures ∙ placed_row first.new.output i next.result.now ∙ ap (placed i next.result.now) first.ensures)

@@ -9,7 +9,7 @@ use Rattle.builder.proofs.write.write_front.Goals as goal
 pub returns : goal.returns
 returns c = let a = c.args in
     let d = a.output.now in
-    let sizes = a.q ∷ a.p ∷ a.t ∷ a.s ∷ [] in
+    let sizes = a.q ∷ a.sizes.produced ∷ a.sizes.tested ∷ a.sizes.sets ∷ [] in
     let first = c.write_sizes in
     c.copy.ensures
     ∙ placed_row first.new.out 4 a.starts.now

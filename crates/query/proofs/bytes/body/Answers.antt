@@ -8,4 +8,4 @@ use Rattle.query.proofs.bytes.body.Goals as goal
 pub returns : goal.returns
 returns c = let a = c.args in
     let at = query_sizes + c.item_count.result + a.i * body_width in
-    record { order = cc (four_at a.query.now at c.there.result (omega arith)); short = omega arith }
+    record { order = cc (four_at a.query.now at c.min.result (omega arith)); short = omega arith }

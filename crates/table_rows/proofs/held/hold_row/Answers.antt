@@ -13,9 +13,12 @@ use Rattle.table_rows.proofs.held.hold_row.Goals as goal
 pub returns : goal.returns
 returns c =
     let a = c.args in
+    let bits = a.sizes.produced + a.sizes.tested in
+    let sets = a.sizes.sets in
     let w = a.work.now in
     let words = take held_part w in
     let at = row_place a.i in
-    let e = c.cut_word-word.ensures.0 ∙ ap₂ (cut_word a.bits a.sets words) c.row_order-p.ensures c.row_choice-m.ensures in
+    let r = c.row_pair-pair.ensures in
+    let e = c.cut_word-word.ensures.0 ∙ ap₂ (cut_word bits sets words) r.order r.choice in
     c.put.ensures ∙ ap (λ n. placed at (n % 256 ∷ n / 256 ∷ []) w) e
-    ∙ ap (λ b. placed at b w) (sym (state_held a.bits a.sets words (byte_at w at) (byte_at w (at + 1))))
+    ∙ ap (λ b. placed at b w) (sym (state_held bits sets words (byte_at w at) (byte_at w (at + 1))))

@@ -1,2 +1,0 @@
--- What a caller cites.
-pub mod WithinLaws

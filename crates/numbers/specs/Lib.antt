@@ -1,0 +1,2 @@
+-- What the refusals stand for in the terms of the theory.
+pub mod Refusals

@@ -1,2 +1,0 @@
--- What the contracts of the checks cite, beside the theory.
-pub mod Sizes

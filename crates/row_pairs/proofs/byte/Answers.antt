@@ -1,6 +1,0 @@
--- `row_pairs::byte` meets its contract.
-use native.Mathlib.Omega.{arith}
-use Rattle.row_pairs.proofs.byte.Goals as goal
-
-pub overflow_cast-result : goal.overflow_cast-result
-overflow_cast-result c = omega (arith, c.shared_slice_known-1.given c.args.at)
