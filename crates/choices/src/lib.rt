@@ -11,7 +11,10 @@ ghost use Rattle.theory.specs.Scratch.{words_part, held_part, work_length};
 ghost use Rattle.theory.specs.Steps.{pair_count, pair_bytes};
 ghost use Rattle.choices.specs.Words.{settled_orders, WordsAre};
 
+use arrayvec::ArrayVec;
+use closure::PreparedRules;
 use handles::{OrderHandle, SetChoice};
+use numbers::limits::MASK_BITS;
 use query::CheckedQuery;
 
 // The held words of so many produced orders from `from` on under choice x, from the rules in force. All other bytes keep their values.
@@ -20,7 +23,12 @@ fn settle_choice(query: &CheckedQuery, work: &mut [u8], x: u8, from: u8, count: 
     ensures { work.new ≡ settled_orders query.now x from count work.old }
 {
     let sizes = query.sizes();
-    let rules = preparation::prepare(query, SetChoice(x));
+    let mut rules = PreparedRules {
+        arrows: ArrayVec::new(),
+        start: 0,
+        classes: [0; MASK_BITS],
+    };
+    preparation::prepare(query, SetChoice(x), &mut rules);
     for p in from..from + count {
         let word = held::word(query, &rules, p);
         pair_words::write(work, sizes, OrderHandle(p), SetChoice(x), word);

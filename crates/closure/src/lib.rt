@@ -10,7 +10,7 @@ use numbers::limits::MASK_BITS;
 
 // What the closure test is given of the rules in force: the arrows that stand for them, the mask of the columns that are settled from the start, before any entry, and for each column
 // the mask of its class.
-#[derive(Drop)]
+#[derive(Clone, Drop)]
 pub struct PreparedRules<const N: usize> {
     pub arrows: ArrayVec<Arrow, N>,
     pub start: u16,

@@ -10,7 +10,10 @@ ghost use Rattle.rules_in_force.specs.Rules.{rules_at};
 ghost use Rattle.settled.specs.Ends.{Ends};
 ghost use Rattle.counterexample.specs.Answers.{found_answer, ListedFound};
 
+use arrayvec::ArrayVec;
+use closure::PreparedRules;
 use handles::{OrderHandle, SetChoice};
+use numbers::limits::MASK_BITS;
 use numbers::refusals::Refusal;
 use query::CheckedQuery;
 use settled::{Stop, test};
@@ -39,7 +42,12 @@ fn tested(
     requires { (produced.0 < order_count query.now) × (order.0 < order_count query.now) }
     ensures { Ends (rules_at query.now sets.0) (order_at query.now produced.0) (order_at query.now order.0) result }
 {
-    let rules = preparation::prepare(query, sets);
+    let mut rules = PreparedRules {
+        arrows: ArrayVec::new(),
+        start: 0,
+        classes: [0; MASK_BITS],
+    };
+    preparation::prepare(query, sets, &mut rules);
     let bytes = query.bytes();
     let p = query::order(bytes, produced);
     let o = query::order(bytes, order);

@@ -12,16 +12,11 @@ use handles::SetChoice;
 use numbers::limits::MAX_ARROWS;
 use query::CheckedQuery;
 
-// What the test is given for the rules in force under choice x.
-pub fn prepare(query: &CheckedQuery, x: SetChoice) -> PreparedRules<MAX_ARROWS>
-    ensures { Prepared (rules_at query.now x.0) result.arrows.items result.start result.classes }
+// What the test is given for the rules in force under choice x, in place of what it was given before.
+pub fn prepare(query: &CheckedQuery, x: SetChoice, rules: &mut PreparedRules<MAX_ARROWS>)
+    ensures { Prepared (rules_at query.now x.0) rules.new.arrows.items rules.new.start rules.new.classes }
 {
-    let arrows = rules_in_force::list(query, x.0, false);
-    let start = closure::close(&arrows, 0);
-    let classes = masks::classes(query, x.0);
-    PreparedRules {
-        arrows,
-        start,
-        classes,
-    }
+    rules.classes = masks::classes(query, x.0, &mut rules.arrows);
+    rules_in_force::list(query, x.0, false, &mut rules.arrows);
+    rules.start = closure::close(&rules.arrows, 0);
 }

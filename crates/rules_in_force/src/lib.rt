@@ -38,13 +38,12 @@ fn add(query: &CheckedQuery, x: u8, only: bool, arrows: &mut ArrayVec<Arrow, MAX
     }
 }
 
-// The arrows of all dependencies in force, or of the equals among them.
-pub fn list(query: &CheckedQuery, x: u8, only: bool) -> ArrayVec<Arrow, MAX_ARROWS>
-    ensures { ArrowsListed only (rules_at query.now x) result.items }
+// The arrows of all dependencies in force, or of the equals among them, in place of those that the list had.
+pub fn list(query: &CheckedQuery, x: u8, only: bool, arrows: &mut ArrayVec<Arrow, MAX_ARROWS>)
+    ensures { ArrowsListed only (rules_at query.now x) arrows.new.items }
 {
-    let mut arrows = ArrayVec::new();
+    arrows.clear();
     for i in 0..query_sizes::dependencies(query.bytes()) {
-        add(query, x, only, &mut arrows, i);
+        add(query, x, only, arrows, i);
     }
-    arrows
 }

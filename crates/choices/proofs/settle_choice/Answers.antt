@@ -28,7 +28,7 @@ loop-p-preserved c =
     let b = a.query.now in
     let l = c.loop-p in
     let below : l.p < produced_count b = omega (arith, c.requires.1) in
-    let held = c.word-word.ensures (rules_at b a.x) c.prepare-rules.ensures ∙ ap number (held_bits_lem b a.x l.p below) in
+    let held = c.word-word.ensures (rules_at b a.x) c.prepare.ensures ∙ ap number (held_bits_lem b a.x l.p below) in
     c.write.ensures
     ∙ ap₂ (λ n w. placed (pair_at n l.p a.x) (w % 256 ∷ w / 256 ∷ []) l.work) (c.sizes-sizes.ensures.sets ∙ sym (set_count_lem b)) held
     ∙ ap (λ w. placed (pair_at (read_query b).sets l.p a.x) w l.work) (sym (word_bytes (held_under (read_query b) (get_or (read_query b).produced l.p []) (bits_of (read_query b).sets a.x))))

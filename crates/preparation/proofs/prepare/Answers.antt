@@ -5,6 +5,6 @@ use Rattle.preparation.proofs.prepare.Goals as goal
 
 pub returns : goal.returns
 returns c =
-    let listed = c.list-arrows in
+    let listed = c.list in
     let rules = written_stands listed.ensures in
-    record { rules = rules; settled = closes_none listed.result.items c.close-start.result (rw c.deref.ensures.0 at c.close-start.ensures) _ rules; classed = c.classes-classes.ensures }
+    record { rules = rules; settled = closes_none listed.new.arrows.items c.close-rules.result (rw c.deref.ensures.0 at c.close-rules.ensures) _ rules; classed = c.classes-rules.ensures }

@@ -19,7 +19,7 @@ many c = c.dependencies-i-end.ensures ∙ ap dependency_count c.bytes.ensures.by
 
 pub loop-i-init : goal.loop-i-init
 unfolding flatten
-loop-i-init c = rw c.new-arrows.ensures (omega arith, no_arrow)
+loop-i-init c = rw c.clear.ensures (omega arith, no_arrow)
 
 pub add-requires : goal.add-requires
 add-requires c = let p = query_passed c.args.query.now c.bytes.ensures.checked in let e = many (goal.at.add-requires c).After-dependencies-i-end in
