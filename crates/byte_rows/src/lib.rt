@@ -21,12 +21,20 @@ pub fn word(low: u8, high: u8) -> u16
     u16::from_le_bytes([low, high])
 }
 
+// The row reader: the first bytes of a part that starts at a row.
+fn first(part: &[u8], width: usize) -> &[u8]
+    requires { width ≤ length part.now }
+    ensures { (result.now ≡ take width part.now) × (length result.now ≡ width) }
+{
+    &part[..width]
+}
+
 // The n bytes from a place on, as they are in the bytes.
 pub fn part(bytes: &[u8], at: usize, n: usize) -> &[u8]
     requires { at + n ≤ length bytes.now }
     ensures { (result.now ≡ take n (drop at bytes.now)) × (length result.now ≡ n) }
 {
-    &bytes[at..at + n]
+    first(&bytes[at..], n)
 }
 
 // Row i of an array of rows that begins at `base`, as it is in the bytes.
@@ -42,7 +50,9 @@ pub fn copy(out: &mut [u8], at: usize, from: &[u8])
     requires { at + length from.now ≤ length out.old }
     ensures { out.new ≡ paste out.old at from.now (length from.now) }
 {
-    out[at..at + from.len()].copy_from_slice(from);
+    for i in 0..from.len() {
+        out[at + i] = from[i];
+    }
 }
 
 // Every byte becomes 0.
