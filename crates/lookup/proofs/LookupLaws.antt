@@ -4,6 +4,7 @@ use native.Mathlib.Omega.{arith}
 use mathlib.Core.Path.{◌≡◌, refl, ◌∙◌}
 use mathlib.Core.Bool.{Bool}
 use mathlib.Core.Logic.{◌⊎◌, inl, inr, ⊎_elim}
+use mathlib.Core.List.{[]}
 use lib.Dec.{eqb}
 use borrow.Author.Tests.{leb-true, ne_eqb}
 use Rattle.theory.specs.Tests.{pick, Says, holds, fails}
@@ -41,6 +42,10 @@ form_refuses t a {n} e f = rw (← e, ne_eqb n passed f)
 -- and so does a read that is refused
 pub read_refuses : (t : Bytes) (state : ℕ) (a : Answer) {n : ℕ} → n ≡ read_refusal t state → (n ≡ passed → ⊥) → refuse n ≡ pick (eqb (read_refusal t state) passed) a (refuse (read_refusal t state))
 read_refuses t state a {n} e f = rw (← e, ne_eqb n passed f)
+
+-- and then there is no row
+pub row_refuses : (t : Bytes) (state : ℕ) (part : Bytes) {n : ℕ} → n ≡ read_refusal t state → (n ≡ passed → ⊥) → [] ≡ pick (eqb (read_refusal t state) passed) part []
+row_refuses t state part {n} e f = rw (← e, ne_eqb n passed f)
 
 -- the number of a refusal is not 0, and it is a byte
 pub refusal_some : (n : ℕ) → MoveRefusal n → (0 < n) × (n < 256)

@@ -6,7 +6,7 @@ ghost use Rattle.theory.specs.Limits.{longest_table};
 ghost use Rattle.theory.specs.Table.{states_in, sets_in, successors_base, enter, take_in, ask, word, row, read_refusal};
 ghost use Rattle.numbers.specs.Refusals.{refusal_in};
 ghost use Rattle.formed_lookup.specs.Answers.{asked_answer, ListedAsk};
-ghost use Rattle.lookup.specs.Answers.{moved_answer, word_answer, ListedMove, ListedWord};
+ghost use Rattle.lookup.specs.Answers.{moved_answer, word_answer, row_answer, ListedMove, ListedWord};
 
 use handles::{OrderHandle, SetHandle, StateNumber};
 use numbers::limits::TABLE_SIZES;
@@ -77,10 +77,17 @@ pub fn check_state(table: &[u8], state: StateNumber) -> Result<FormedTable<'_>, 
 // Hand back a state's successor row, as it is in the lent table.
 pub fn row_of(table: &[u8], state: StateNumber) -> Result<&[u8], Refusal>
     ensures refusal { refusal_in result ≡ read_refusal table.now state.0 }
-    ensures row { IfOk result (λ row_bytes. row_bytes.now ≡ row table.now state.0) }
+    ensures row { row_answer result ≡ row table.now state.0 }
 {
     let formed = check_state(table, state)?;
     Ok(formed.successors(state))
+}
+
+// The successor row as that part of the lent table; the empty part on refusal.
+pub fn row_part(table: &[u8], state: StateNumber) -> &[u8]
+    ensures { result.now ≡ row table.now state.0 }
+{
+    row_of(table, state).unwrap_or(&table[..0])
 }
 
 // Where a state's successor row begins in the table.

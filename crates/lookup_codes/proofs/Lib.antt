@@ -1,0 +1,2 @@
+-- What is known of the numbers for C.
+pub mod CodeLaws

@@ -1,0 +1,2 @@
+-- What a lookup's number for C stands for.
+pub mod Decoded
