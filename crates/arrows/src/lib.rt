@@ -1,4 +1,4 @@
-// The arrows of a rule, between masks: the columns from which an arrow goes, and the column to which it goes. The function requires what its callers have shown: it is no entry point.
+// The arrows of a rule, between masks: the columns from which an arrow goes, and the column to which it goes. The functions require what their callers have shown: they are no entry points.
 #![tactic(auto)]
 
 ghost use Rattle.std.specs.Prelude.{◌≡◌, false, [], ◌∷◌, ◌++◌, ◌+◌, ◌≤◌, ◌<◌, length};
@@ -20,7 +20,7 @@ pub struct Arrow {
 
 impl Arrow {
     // The arrow from an order's columns to a column.
-    fn between(from: Order, to: u8) -> Arrow
+    pub fn between(from: Order, to: u8) -> Arrow
         requires { Narrow (to ∷ order_of from) }
         ensures { ArrowIs (column_arrow (order_of from) to) result }
     {

@@ -9,6 +9,7 @@ ghost use Rattle.settled.specs.Ends.{Ends};
 ghost use Rattle.settled.specs.Places.{Skipped, class_in, meets};
 
 use crate::Stop;
+use arrows::Arrow;
 use closure::PreparedRules;
 use numbers::limits::MASK_BITS;
 use orders::Order;
@@ -54,13 +55,19 @@ fn meets(classes: &[u16; MASK_BITS], e: u8, p: Order, at: usize) -> bool
 }
 
 // The test of order o against the produced order p: where it stops, or nothing where o is held. An entry of o that is settled by those before it is passed over; any other uses
-// up the first entry of what is left of p that is not settled, which has to be alike.
-pub fn test<const N: usize>(rules: &PreparedRules<N>, p: Order, o: Order) -> Option<Stop>
+// up the first entry of what is left of p that is not settled, which has to be alike. The arrows and the classes are lent.
+pub fn test_on(
+    arrows: &[Arrow],
+    start: u16,
+    classes: &[u16; MASK_BITS],
+    p: Order,
+    o: Order,
+) -> Option<Stop>
     requires { Narrow (columns (order_of p)) × Narrow (columns (order_of o)) }
-    ensures { (rs : List Rule) → Prepared rs rules.now.arrows.items rules.now.start rules.now.classes → Ends rs (order_of p) (order_of o) result }
+    ensures { (rs : List Rule) → Prepared rs arrows.now start classes.now → Ends rs (order_of p) (order_of o) result }
 {
     let m = o.length();
-    let mut mask = rules.start;
+    let mut mask = start;
     let mut j = 0;
     for i in 0..m {
         let e = o.entry(i);
@@ -69,21 +76,29 @@ pub fn test<const N: usize>(rules: &PreparedRules<N>, p: Order, o: Order) -> Opt
             continue;
         }
         j = unsettled(p, j, mask);
-        if !meets(&rules.classes, e, p, j) {
+        if !meets(classes, e, p, j) {
             let x = p.entry(j);
             return Some(Stop {
                 settled: mask,
-                class: class_by(&rules.classes, e, x),
+                class: class_by(classes, e, x),
                 ascends: !orders::descends(x),
             });
         }
         if i + 1 == m {
             return None;
         }
-        mask = closure::close(&rules.arrows, mask | column_masks::bit(c));
+        mask = closure::close(arrows, mask | column_masks::bit(c));
         j += 1;
     }
     None
+}
+
+// The same test on prepared rules.
+pub fn test<const N: usize>(rules: &PreparedRules<N>, p: Order, o: Order) -> Option<Stop>
+    requires { Narrow (columns (order_of p)) × Narrow (columns (order_of o)) }
+    ensures { (rs : List Rule) → Prepared rs rules.now.arrows.items rules.now.start rules.now.classes → Ends rs (order_of p) (order_of o) result }
+{
+    test_on(&rules.arrows, rules.start, &rules.classes, p, o)
 }
 
 // Whether order o is held from the produced order p.
