@@ -3,7 +3,7 @@ use Prim.Native.Nat.{ℕ, ◌<◌}
 use native.Mathlib.Omega.{arith}
 use mathlib.Core.Path.{◌≡◌, refl, ap}
 use mathlib.Core.Bool.{Bool}
-use mathlib.Core.Logic.{inl, inr, ⊎_elim}
+use mathlib.Core.Logic.{◌⊎◌, inl, inr, ⊎_elim}
 use lib.Dec.{ltb}
 use Rattle.std.proofs.Common.{Result, Ok, Err}
 use Rattle.theory.specs.Tests.{pick, Says, holds, fails}
@@ -16,7 +16,6 @@ use Rattle.theory.proofs.RefusalLaws.{pick_either}
 use Rattle.table.specs.Form.{Formed}
 use Rattle.table.proofs.FormLaws.{formed}
 use Rattle.numbers.specs.declared.refusals.Refusal.{Refusal}
-use Rattle.numbers.specs.Refusals.{number_of}
 use Rattle.numbers.proofs.RefusalLaws as numbers
 use Rattle.lookup.specs.declared.Mark.{Mark}
 use Rattle.lookup.specs.Answers.{moved_answer, MoveRefusal, ListedMove}
@@ -53,8 +52,12 @@ unfolding take_in
 plain_take t state s =
     plain_formed t (λ f. pick_either Plain (ltb state (states_in t)) (pick_either Plain (ltb s (sets_in t)) (plain_state t (successor_in t state s) f) plain_handle) plain_handle)
 
--- so a move that answers so is refused with one of those
-pub move_listed : (r : Result Mark Refusal) {a : Answer} → Plain a → moved_answer r ≡ a → ListedMove r
+-- so it is no refusal, or one of those
+pub plain_listed : {a : Answer} → Plain a → (a.refusal ≡ passed) ⊎ MoveRefusal a.refusal
+plain_listed (granted n b) = inl refl
+plain_listed (refused n m) = inr m
+
+-- and a move that answers so is refused with one of those
+pub move_listed : (r : Result Mark Refusal) {a : Answer} → (a.refusal ≡ passed) ⊎ MoveRefusal a.refusal → moved_answer r ≡ a → ListedMove r
 move_listed (Ok mark) p e = tt
-move_listed (Err r) (granted n b) e = absurd (numbers.refused r (ap (λ (x : Answer). x.refusal) e))
-move_listed (Err r) (refused n m) e = let same : number_of r ≡ n = ap (λ (x : Answer). x.refusal) e in rw same m
+move_listed (Err r) p e = let same = ap (λ (x : Answer). x.refusal) e in ⊎_elim (λ z. absurd (numbers.refused r (rw z at same))) (λ m. rw same m) p
